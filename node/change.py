@@ -26,10 +26,11 @@ import sys
 
 sys.dont_write_bytecode = True
 sys.path.insert(0, str(pathlib.Path(__file__).resolve().parents[1] / "python"))
-from membership import Definition, Ledger, Membership, at_hand, check_usable, member_of, membership_of, needed, parsed, unmet
+from membership import Ledger, at_hand, check_usable, member_of, membership_of, needed, parsed, unmet
 from network import OPEN, PROFILES, USUAL_PROFILE, Mistake
 from policies import is_satisfied
 from program import ROOT
+from regtuma.wire import Definition, Member, Membership
 
 # What runs the program.
 LEDGER = str(ROOT / "ledger")
@@ -63,42 +64,42 @@ def wanted(words: argparse.Namespace, stands: Membership) -> Membership:
     begun = membership_of(parsed(words.to), words.to) if words.to else stands
     if begun.serial != stands.serial:
         raise NoChange(f"{words.to} was made of serial number {begun.serial}, and {stands.serial} stands: begin again with that one")
-    found = dict(begun.members)
+    found = begun.by_name
     for file in words.add:
-        name, key = entry(file)
-        if name in found:
-            raise NoChange(f"{name} is a member already: --key replaces its key")
-        found[name] = key
+        member = entry(file)
+        if member.name in found:
+            raise NoChange(f"{member.name} is a member already: --key replaces its key")
+        found[member.name] = member
     for file in words.key:
-        name, key = entry(file)
-        if name not in found:
-            raise NoChange(f"{name} is no member: --add takes it in")
-        found[name] = key
+        member = entry(file)
+        if member.name not in found:
+            raise NoChange(f"{member.name} is no member: --add takes it in")
+        found[member.name] = member
     for name in words.remove:
         if name not in found:
             raise NoChange(f"{name} is no member")
         del found[name]
-    after = stands.next(found, words.policy or begun.policy)
+    after = Membership(stands.serial + 1, [found[name] for name in sorted(found)], words.policy or begun.policy)
     if (after.members, after.policy) == (stands.members, stands.policy):
         raise NoChange("that is what stands already")
     return after
 
 
-def entry(file: str) -> tuple[str, str | None]:
+def entry(file: str) -> Member:
     """The member of a file with what `keygen` printed."""
     return member_of(parsed(file), file)
 
 
 def tell_change(stands: Membership, after: Membership) -> None:
     tell(f"what stands: serial number {stands.serial}, policy {stands.policy}")
-    for name, key in stands.members.items():
-        tell(f"  {name}: {key_in_words(key)}")
+    for member in stands.members:
+        tell(f"  {member.name}: {key_in_words(member)}")
     tell(f"what will stand: serial number {after.serial}, policy {after.policy}")
-    for name in sorted({*stands.members, *after.members}):
-        tell(f"  {name}{what_changes(name, stands.members, after.members)}")
+    for name in sorted({*stands.by_name, *after.by_name}):
+        tell(f"  {name}{what_changes(name, stands.by_name, after.by_name)}")
 
 
-def what_changes(name: str, before: dict[str, str | None], behind: dict[str, str | None]) -> str:
+def what_changes(name: str, before: dict[str, Member], behind: dict[str, Member]) -> str:
     if name not in behind:
         return " leaves"
     key = key_in_words(behind[name])
@@ -107,8 +108,8 @@ def what_changes(name: str, before: dict[str, str | None], behind: dict[str, str
     return f": {key}" if before[name] == behind[name] else f" has a new key: {key}"
 
 
-def key_in_words(key: str | None) -> str:
-    return f"public key {key}" if key else "its key of the genesis file"
+def key_in_words(it: Member) -> str:
+    return f"public key {it.public.hex()}" if it.public else "its key of the genesis file"
 
 
 def check_lock_out(ledger: Ledger, after: Membership, files: list[str]) -> None:
@@ -142,8 +143,8 @@ def tell_what_stands(words: argparse.Namespace) -> None:
     if not ran.stdout:
         tell(f"{words.chaincode} is what the genesis file says, or unknown there")
         return
-    it = Definition.of(json.loads(ran.stdout.splitlines()[-1])["value"])
-    tell(f"{words.chaincode} is module {it.module}, profile {it.profile}, fuel {it.fuel}, policy {it.policy}")
+    it = Definition.decode(bytes.fromhex(json.loads(ran.stdout.splitlines()[-1])["value"]))
+    tell(f"{words.chaincode} is module {it.module.hex()}, profile {it.profile}, fuel {it.fuel}, policy {it.policy}")
 
 
 def upgrade(words: argparse.Namespace) -> None:

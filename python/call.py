@@ -21,7 +21,8 @@ from folder import KEYS, network_at
 from membership import Ledger, membership_of, owners
 from outcome import WHY, effects, verdict
 from peer import Beside, Ended, Peer, Refused, answered
-from program import ROOT, find, progress, say
+from program import find, progress, say
+from regtuma import wire
 
 OF_ANOTHER = "ask the node (regtuma submit), or copy the file"
 
@@ -123,7 +124,6 @@ def by_peer(asked: Asked, program: str) -> Made:
 
 def by_node(asked: Asked, program: str, url: str) -> Made:
     """Has the node make the call of a network that runs."""
-    sys.path.insert(0, str(ROOT / "node"))
     from regtuma.client import Client, Failed
     if asked.modules or asked.keys not in (None, str(pathlib.Path(asked.store).parent / KEYS)):
         raise Ended("a network runs there, whose nodes have keys and modules of their own: leave out --keys and --modules")
@@ -226,7 +226,7 @@ def envelope(asked: Asked, program: str, orgs: list[str]) -> str:
     payloads = {payload for payload, _ in said}
     if len(payloads) > 1:
         raise Ended("the organisations do not simulate alike")
-    return f"{payloads.pop()}{len(said):02x}{''.join(endorsement for _, endorsement in said)}"
+    return wire.envelope(payloads.pop(), [endorsement for _, endorsement in said])
 
 
 def endorsed(asked: Asked, program: str, org: str) -> tuple[str, str]:

@@ -22,6 +22,7 @@ from network import CHAINCODES, OPEN, quoted
 from outcome import shown
 from peer import Beside, Ended, Peer, Refused, answered
 from program import find, progress, say
+from regtuma import wire
 from wasm_machine import Machine, Spent
 from wasm_module import Module
 from wasm_operators import TRAPS, WORD, Trap
@@ -150,9 +151,9 @@ def definition_in(call: Call, entry: Entry | None) -> Definition:
         return Definition(bytes.fromhex(own["module"]), own["fuel"], None)
     held = [it for file in call.modules[1:] for it in json.loads(pathlib.Path(file).read_bytes())]
     at_hand = [(bytes.fromhex(it["module"]), it["profile"]) for it in [*genesis["chaincodes"], *genesis["modules"], *held]]
-    profile, digest, fuel = entry.value[0] % OPEN, entry.value[1:33], int.from_bytes(entry.value[33:37], "big")
-    module = next(it for it, its_profile in at_hand if its_profile == profile and hashlib.sha256(it).digest() == digest)
-    return Definition(module, fuel, entry)
+    stands = wire.Definition.decode(entry.value)
+    module = next(it for it, profile in at_hand if profile == stands.profile % OPEN and hashlib.sha256(it).digest() == stands.module)
+    return Definition(module, stands.fuel, entry)
 
 
 # ---------------------------------------------------------------- the run

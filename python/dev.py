@@ -23,10 +23,7 @@ from collections.abc import Iterator
 import kit
 from folder import GENESIS, KEY, LOG, NETWORK, STORE, URL
 from network import Mistake
-from program import ROOT, find, progress, say
-
-NODE = ROOT / "node"
-sys.path.insert(0, str(NODE))
+from program import NODE, ROOT, find, progress, say
 from regtuma import cli, numbers
 from regtuma.client import Client, Failed
 from regtuma.entries import Lines, LogError

@@ -7,24 +7,9 @@ from collections.abc import Iterator
 from commands import no_chaincode
 from network import ORGS, Mistake, Object, ask, quoted, reason, refusal, shown, smallest, wrong_policy
 from policies import is_satisfied
+from regtuma.wire import Definition, Member, Membership
 
 PUBLIC = re.compile("[0-9A-Fa-f]{64}")
-
-
-@dataclasses.dataclass(frozen=True)
-class Membership:
-    """Names of members, each with its public key, or None where it keeps the genesis file's key."""
-    serial: int
-    members: dict[str, str | None]
-    policy: str
-
-    def next(self, members: dict[str, str | None], policy: str) -> "Membership":
-        return Membership(self.serial + 1, dict(sorted(members.items())), policy)
-
-    def fields(self) -> dict[str, object]:
-        """As a line of events and a proposal have it."""
-        members = [{"name": name} if key is None else {"name": name, "public": key} for name, key in self.members.items()]
-        return {"members": members, "policy": self.policy, "serial": self.serial}
 
 
 @dataclasses.dataclass(frozen=True)
@@ -50,27 +35,12 @@ class Ledger:
         for line in ask(self.program, "state", self.genesis, self.store).out.splitlines():
             entry = json.loads(line)
             if entry["key"].startswith("00") and entry["key"] != "00":
-                found[bytes.fromhex(entry["key"][2:]).decode()] = Definition.of(entry["value"]).policy
+                found[bytes.fromhex(entry["key"][2:]).decode()] = Definition.decode(bytes.fromhex(entry["value"])).policy
         yield from sorted(found.items())
 
     def unknown(self, chaincode: str) -> str:
         """That there is no such chaincode."""
         return f"{no_chaincode(chaincode, [name for name, _ in self.policies()])} (401)"
-
-
-@dataclasses.dataclass(frozen=True)
-class Definition:
-    """A chaincode's definition."""
-    profile: int
-    module: str
-    fuel: int
-    policy: str
-
-    @staticmethod
-    def of(value: str) -> "Definition":
-        """The one that a value of the state, in hex, spells."""
-        data = bytes.fromhex(value)
-        return Definition(data[0], data[1:33].hex(), int.from_bytes(data[33:37], "big"), data[39:].decode("ascii"))
 
 
 def parsed(file: str) -> Object:
@@ -87,8 +57,8 @@ def parsed(file: str) -> Object:
     return value
 
 
-def member_of(entry: object, place: str) -> tuple[str, str | None]:
-    """A member's name, and its public key where it has one of its own."""
+def member_of(entry: object, place: str) -> Member:
+    """The member that JSON says, as `keygen` prints it."""
     if not isinstance(entry, dict) or not isinstance(entry.get("name"), str) or not set(entry) <= {"name", "public"}:
         raise Mistake(f"{place}: a member is an object with a name and, if it has a key of its own, public")
     name, key = entry["name"], entry.get("public")
@@ -96,7 +66,7 @@ def member_of(entry: object, place: str) -> tuple[str, str | None]:
         raise Mistake(f"{place}: {shown(name)} is no name: one has 1 to 32 {ORGS.name_is}")
     if key is not None and not (isinstance(key, str) and PUBLIC.fullmatch(key)):
         raise Mistake(f"{place}: the public key of {name} has to be hex of 32 bytes")
-    return name, key and key.lower()
+    return Member(name, None if key is None else bytes.fromhex(key))
 
 
 def membership_of(value: Object, place: str) -> Membership:
@@ -104,8 +74,8 @@ def membership_of(value: Object, place: str) -> Membership:
     members, serial, policy = (value.get(it) for it in ("members", "serial", "policy"))
     if not isinstance(members, list) or not isinstance(policy, str) or type(serial) is not int:
         raise Mistake(f"{place}: a membership has the fields members, policy and serial, as `ledger state .. --members` prints it")
-    found = dict(member_of(it, place) for it in members)
-    if len(found) != len(members):
+    found = [member_of(it, place) for it in members]
+    if len({it.name for it in found}) != len(found):
         raise Mistake(f"{place}: a member stands twice")
     return Membership(serial, found, policy)
 
@@ -115,16 +85,16 @@ def check_usable(ledger: Ledger, it: Membership) -> None:
     listed = ledger.organisations()
     if not 1 <= len(it.members) <= ORGS.most:
         raise Mistake(f"there have to be 1 to {ORGS.most} members")
-    for name, key in it.members.items():
-        if key is None and name not in listed:
-            raise Mistake(f"{name} is none of the genesis file's organisations, whose key it could keep: name its public key")
-    orgs = [listed[name] if key is None else {"name": name, "public": key} for name, key in it.members.items()]
+    for member in it.members:
+        if member.public is None and member.name not in listed:
+            raise Mistake(f"{member.name} is none of the genesis file's organisations, whose key it could keep: name its public key")
+    orgs = [listed[member.name] if member.public is None else member.fields() for member in it.members]
     for org in orgs:
         if refusal(ledger.program, smallest([org])) == "803":
             raise Mistake(f"the public key of {org['name']} is no point of the curve, or one of small order")
     number = refusal(ledger.program, {**smallest(orgs), "upgrade": it.policy})
     if number == "805":
-        raise Mistake(f"{wrong_policy('the policy', it.policy, list(it.members))}: name another one by --policy")
+        raise Mistake(f"{wrong_policy('the policy', it.policy, list(it.by_name))}: name another one by --policy")
     if number == "806":
         raise Mistake("two members have one public key, so that its owner would count for both")
     if number:
@@ -145,15 +115,15 @@ def at_hand(ledger: Ledger, it: Membership, files: list[str]) -> list[str]:
 def owners(ledger: Ledger, it: Membership, publics: set[str]) -> list[str]:
     """The members for whom somebody can endorse that has the seeds of these public keys."""
     listed = ledger.organisations()
-    keys = {name: key or listed[name].get("public") for name, key in it.members.items()}
+    keys = {member.name: member.fields().get("public") or listed[member.name].get("public") for member in it.members}
     return [name for name, key in keys.items() if key is None or key.lower() in publics]
 
 
 def needed(it: Membership) -> list[str]:
     """The members without whom the others cannot meet the policy."""
-    return [name for name in it.members if not is_satisfied(it.policy, set(it.members) - {name})]
+    return [name for name in it.by_name if not is_satisfied(it.policy, it.by_name.keys() - {name})]
 
 
 def unmet(ledger: Ledger, it: Membership) -> list[tuple[str, str]]:
     """The chaincodes, with their policies, that the members cannot endorse calls of."""
-    return [(name, policy) for name, policy in ledger.policies() if not is_satisfied(policy, it.members)]
+    return [(name, policy) for name, policy in ledger.policies() if not is_satisfied(policy, it.by_name)]

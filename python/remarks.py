@@ -173,7 +173,7 @@ def in_key_file(name: str, found: Given, file: str) -> tuple[list[str], list[str
     signers = ([org] if org else []) if name == "peer" else genesis["peers"][:1 if name == "threads" else None]
     keys = [(it["name"], it.get("public")) for it in genesis["orgs"]]
     if name == "peer" and org and not is_able(org, keys, publics) and os.path.isfile(found.words[1]):
-        keys += [it for it in Ledger(str(find()), *found.words[:2]).stands().members.items() if it[1]]
+        keys += [(it.name, it.public.hex()) for it in Ledger(str(find()), *found.words[:2]).stands().members if it.public]
     lacking = [it for it in signers if it in dict(keys) and not is_able(it, keys, publics)]
     return lacking, list(dict.fromkeys(name for name, key in keys if key and key.lower() in publics))
 

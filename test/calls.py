@@ -6,11 +6,15 @@ import pathlib
 import shutil
 import signal
 import subprocess
+import sys
 import time
 
 from report import Ran, Report, start
 from seeing import comes_to_be
-from tree import PROVED, UNPROVED, program, run_ledger
+from tree import PROVED, ROOT, UNPROVED, program, run_ledger
+
+sys.path.insert(0, str(ROOT / "node"))
+from regtuma.wire import Call, Envelope, Payload
 
 # How long a command may take, in seconds.
 SECONDS = 120
@@ -235,7 +239,7 @@ def chain_of(count: int) -> bytes:
     """A store of so many blocks, each with a call that nobody endorsed."""
     records, link = [], bytes(32)
     for number in range(1, count + 1):
-        envelope = b"\2kv" + bytes(2) + number.to_bytes(16, "big") + bytes(9)
+        envelope = Envelope(Payload(Call("kv", b"", number.to_bytes(16, "big"))).encode(), []).encode()
         data = b"\0\1" + len(envelope).to_bytes(4, "big") + envelope
         header = number.to_bytes(4, "big") + link + hashlib.sha256(data).digest()
         record = len(header + data).to_bytes(4, "big") + header + data + b"\1"

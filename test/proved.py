@@ -57,7 +57,8 @@ class Proving:
             (self.root / name).parent.mkdir(parents=True, exist_ok=True)
             (self.root / name).write_text(text)
         shutil.copy2(tree / "ledger", self.root)
-        shutil.copytree(tree / "python", self.root / "python")
+        for folder in ("python", "node/regtuma"):
+            shutil.copytree(tree / folder, self.root / folder)
         # The script reads its version, and the table of the program's commands.
         shutil.copy2(tree / "VERSION", self.root)
         shutil.copytree(tree / "crates/cli_words/src", self.root / "crates/cli_words/src")

@@ -1,15 +1,19 @@
 #!/usr/bin/env python3
 """Writes the last groups of `stdin` and `stdout`: open definitions, memberships, amendments and modules files.
 
-Bytes and rules are those of docs/RULES.md; ids and tags are made by `hashlib` and `hmac`.
+Rules are those of docs/RULES.md. Bytes come from node/regtuma/wire.py, ids and tags from `hashlib` and `hmac`.
 """
 import hashlib
 import hmac
 import json
 import pathlib
+import sys
 from collections.abc import Callable
 
 HERE = pathlib.Path(__file__).parent
+sys.path.insert(0, str(HERE.resolve().parents[1] / "node"))
+from regtuma.wire import Amendment, Definition, Member, Membership, Payload, Upgrade
+
 FIRST = "# wire: open definitions"
 
 Row = tuple[str, str]
@@ -27,60 +31,27 @@ PUTS = ("0061736d01000000010d0260047f7f7f7f017f6000017f0214010666616272696309707
         "0a0106696e766f6b6500010a11010f00410041014101410110001a41000b0b08010041000b026131")
 
 
-def short(data: bytes) -> bytes:
-    return bytes([len(data)]) + data
-
-
-def long(data: bytes) -> bytes:
-    return len(data).to_bytes(2, "big") + data
-
-
-def definition(form: int, digest: bytes, fuel: int, policy: str) -> bytes:
-    return bytes([form]) + digest + fuel.to_bytes(4, "big") + long(policy.encode())
-
-
-def member(name: str, public: str = "") -> bytes:
-    return short(name.encode()) + (b"\1" + bytes.fromhex(public) if public else b"\0")
-
-
-def membership(serial: int, members: list[bytes], policy: str) -> bytes:
-    return b"\1" + serial.to_bytes(4, "big") + bytes([len(members)]) + b"".join(members) + long(policy.encode())
-
-
-def upgrade(value: bytes) -> bytes:
-    return b"\0" + short(b"kv") + value + NO_NONCE
-
-
-def amendment(value: bytes, nonce: bytes = NO_NONCE) -> bytes:
-    return b"\x80" + value + nonce
-
-
-def payload(proposal: bytes, key: bytes, value: bytes, version: bytes = b"") -> bytes:
-    """The payload that reads a key, absent where no version is given, and puts a value there."""
-    read = short(key) + (b"\1" + version if version else b"\0")
-    return proposal + bytes(2) + b"\0\1" + read + bytes(2) + b"\0\1" + short(key) + b"\1" + long(value)
-
-
 def same(text: str) -> str:
     return f"{text}, same bytes"
 
 
-def of_bytes(proposal: bytes, whole: bytes, text: str) -> list[Row]:
+def of_payload(payload: Payload, text: str) -> list[Row]:
     """What a payload is, the id of its proposal, and A's tag under the key `Jefe`."""
+    whole = payload.encode()
     return [
         (f"payload {whole.hex()}", same(text)),
-        (f"tx_id {whole.hex()}", hashlib.sha256(proposal).hexdigest()),
+        (f"tx_id {whole.hex()}", hashlib.sha256(payload.proposal.encode()).hexdigest()),
         (f"tag 4a656665 {whole.hex()}", hmac.digest(b"Jefe", whole, "sha256").hex()),
     ]
 
 
-def put(key: bytes, value: bytes, seen: str = "-") -> str:
-    return f"r:0x{key.hex()}@{seen} w:0x{key.hex()}=0x{value.hex()}"
+def put(key: bytes, value: Definition | Membership, seen: str = "-") -> str:
+    return f"r:0x{key.hex()}@{seen} w:0x{key.hex()}=0x{value.encode().hex()}"
 
 
 def definitions() -> list[Row]:
     rest = "07*32 00000047 0003 274127"
-    opened = definition(17, bytes.fromhex(M2), 141, "'A'")
+    opened = Definition(17, bytes.fromhex(M2), 141, "'A'")
     rows = [(f"definition {form} {rest}", same(f"definition := {int(form, 16)} {'07' * 32} 71 'A'")) for form in ("11", "12")]
     rows += [(f"definition {form} {rest}", "refused 303") for form in ("10", "13", "21", "81", "91")]
     rows += [
@@ -88,24 +59,23 @@ def definitions() -> list[Row]:
         ("definition 11 07*32 00000000 0003 274127", "refused 304"),
         ("definition 12 07*32 00000047 0000", "refused 304"),
         (f"definition 11 {rest} 00", "refused 305"),
-        (f"definition {opened.hex()}", same(f"definition := 17 {M2} 141 'A'")),
+        (f"definition {opened.encode().hex()}", same(f"definition := 17 {M2} 141 'A'")),
     ]
-    proposal = upgrade(opened)
-    rows += of_bytes(proposal, payload(proposal, UPGRADED, opened), f"kv := 17 {M2} 141 'A' {put(UPGRADED, opened)}")
+    rows += of_payload(Payload.of_change(Upgrade("kv", opened, NO_NONCE)), f"kv := 17 {M2} 141 'A' {put(UPGRADED, opened)}")
     return rows + [(f"payload 00 026b76 {form} 07*32", "refused 303") for form in ("10", "13")]
 
 
 def memberships() -> list[Row]:
     kept = "0141 00 0142 00"
     sixteen = [bytes([97 + place]) * 32 for place in range(16)]
-    greatest = membership(2**32 - 1, [member(name.decode(), B_KEY) for name in sixteen], "~" * 1024)
+    greatest = Membership(2**32 - 1, [Member(name.decode(), bytes.fromhex(B_KEY)) for name in sixteen], "~" * 1024)
     shown = ",".join(f"{name.decode()}={B_KEY}" for name in sixteen)
     return [
         ("membership 01 00000001 01 0141 00 0003 274127", same("1 A 'A'")),
         ("membership 01 00000000 01 0141 00 0003 274127", same("0 A 'A'")),
         (f"membership 01 00000002 02 {kept} 0003 274127", same("2 A,B 'A'")),
         (f"membership 01 00000002 02 0141 00 0142 01 {B_KEY} 000b 4f52282741272c27422729", same(f"2 A,B={B_KEY} OR('A','B')")),
-        (f"membership {greatest.hex()}", same(f"4294967295 {shown} {'~' * 1024}")),
+        (f"membership {greatest.encode().hex()}", same(f"4294967295 {shown} {'~' * 1024}")),
         ("membership 01 00000001 02 0142 00 0141 00 0003 274127", "refused 303"),
         ("membership 01 00000001 02 0141 00 0141 00 0003 274127", "refused 303"),
         (f"membership 01 00000001 02 0141 00 0141 01 {B_KEY} 0003 274127", "refused 303"),
@@ -130,20 +100,18 @@ def memberships() -> list[Row]:
 
 
 def amendments() -> list[Row]:
-    first = membership(1, [member("A")], "'A'")
-    second = membership(2, [member("A"), member("B", B_KEY)], "OR('A','B')")
-    version = (2).to_bytes(4, "big") + bytes(4)
-    rows = of_bytes(amendment(first), payload(amendment(first), AMENDED, first), f"members := 1 A 'A' {put(AMENDED, first)}")
-    rows += of_bytes(
-        amendment(second),
-        payload(amendment(second), AMENDED, second, version),
+    first = Membership(1, [Member("A")], "'A'")
+    second = Membership(2, [Member("A"), Member("B", bytes.fromhex(B_KEY))], "OR('A','B')")
+    rows = of_payload(Payload.of_change(Amendment(first, NO_NONCE)), f"members := 1 A 'A' {put(AMENDED, first)}")
+    rows += of_payload(
+        Payload.of_change(Amendment(second, NO_NONCE), (2, 0)),
         f"members := 2 A,B={B_KEY} OR('A','B') {put(AMENDED, second, '2.0')}",
     )
-    whole = payload(amendment(first, b"\2" * 16), AMENDED, first)
+    whole = Payload.of_change(Amendment(first, b"\2" * 16)).encode()
     return rows + [
         (f"payload {whole.hex()}", same(f"members := 1 A 'A' nonce {'02' * 16} {put(AMENDED, first)}")),
         ("payload 80", "refused 301"),
-        (f"payload 80 {first.hex()} 00*15", "refused 301"),
+        (f"payload 80 {first.encode().hex()} 00*15", "refused 301"),
         (f"payload {whole.hex()} 00", "refused 305"),
         ("payload 80 02", "refused 303"),
         ("payload 80 01 00000001 00", "refused 304"),
@@ -154,24 +122,24 @@ def amendments() -> list[Row]:
 
 def endorsements() -> list[Row]:
     def opened(form: int, policy: str) -> str:
-        return put(UPGRADED, definition(form, b"\x08" * 32, 71, policy))
+        return put(UPGRADED, Definition(form, b"\x08" * 32, 71, policy))
 
     def behind(policy: str) -> str:
-        return f"r:0x006b76@1.0 / w:0x006b76=0x{definition(17, bytes([8]) * 32, 71, policy).hex()}"
+        return f"r:0x006b76@1.0 / w:0x006b76=0x{Definition(17, bytes([8]) * 32, 71, policy).encode().hex()}"
 
-    def members(words: str) -> list[bytes]:
+    def members(words: str) -> list[Member]:
         split = [word.partition("!") for word in words.split("+")]
-        return [member(name, SEEDED[seed] if seed else "") for name, _, seed in split]
+        return [Member(name, bytes.fromhex(SEEDED[seed]) if seed else None) for name, _, seed in split]
 
     def amended(serial: int, words: str, policy: str, seen: str = "-") -> str:
-        return f"a:{serial},{words},{policy} {put(AMENDED, membership(serial, members(words), policy), seen)}"
+        return f"a:{serial},{words},{policy} {put(AMENDED, Membership(serial, members(words), policy), seen)}"
 
-    first, only_b = membership(1, [member("A")], QA), membership(1, [member("B")], QB)
-    after_b = f"/ w:0x00=0x{only_b.hex()}"
+    first, only_b = Membership(1, [Member("A")], QA), Membership(1, [Member("B")], QB)
+    after_b = f"/ w:0x00=0x{only_b.encode().hex()}"
     cases = [
         (f"A/A 'A' | u17:8,71,'B' {opened(17, chr(39) + 'B' + chr(39))}", True),
         (f"A/A 'A' | u18:8,71,'B' {opened(18, QB)}", True),
-        (f"A/A 'A' | u17:7,71,'B' {put(UPGRADED, definition(17, bytes([7]) * 32, 71, QB))}", True),
+        (f"A/A 'A' | u17:7,71,'B' {put(UPGRADED, Definition(17, bytes([7]) * 32, 71, QB))}", True),
         (f"B/B 'A' | u17:8,71,'B' {opened(17, QB)}", False),
         (f"A/A 'A' | u17:8,71,'B' {opened(1, QB)}", False),
         (f"A/A 'A' | u17:8,71,'B' {opened(18, QB)}", False),
@@ -195,8 +163,8 @@ def endorsements() -> list[Row]:
         (f"A/A 'A' | {amended(1, 'A', QB)}", False),
         (f"A/A 'A' | {amended(1, 'A', 'OR(')}", False),
         ("A/A 'A' | a:1,A,'A' r:0x006b76@-", False),
-        (f"A/A 'A' | a:1,A,'A' w:0x00=0x{first.hex()}", False),
-        (f"A/A 'A' | a:1,A,'A' r:0x00@- r:a@- w:0x00=0x{first.hex()}", False),
+        (f"A/A 'A' | a:1,A,'A' w:0x00=0x{first.encode().hex()}", False),
+        (f"A/A 'A' | a:1,A,'A' r:0x00@- r:a@- w:0x00=0x{first.encode().hex()}", False),
         (f"A/A 'A' | {amended(1, 'A', QA)} w:a=1", False),
         (f"A/A 'A' | a:1,A,'A' {put(AMENDED, only_b)}", False),
         (f"A/A 'A' | r:0x006b76@- {after_b}", False),
@@ -209,13 +177,13 @@ def endorsements() -> list[Row]:
         (f"B/B OR('A','B') | u17:8,71,'A' {opened(17, QA)} {after_b}", False),
         (f"A/A OR('A','B') | u17:8,71,'B' {opened(17, QB)} {after_b}", False),
         ("A/A 'A' | r:0x006b76@- / w:0x00=01", True),
-        (f"A/A 'A' | r:0x006b76@- / w:0x00=0x{membership(1, [member('C')], QC).hex()}", True),
-        (f"A/A 'A' | {amended(1, 'A', QA)} / w:0x00=0x{membership(1, [member('C')], QC).hex()}", True),
+        (f"A/A 'A' | r:0x006b76@- / w:0x00=0x{Membership(1, [Member('C')], QC).encode().hex()}", True),
+        (f"A/A 'A' | {amended(1, 'A', QA)} / w:0x00=0x{Membership(1, [Member('C')], QC).encode().hex()}", True),
     ]
-    twice = f"{after_b} / w:0x00=0x{only_b.hex()}"
+    twice = f"{after_b} / w:0x00=0x{only_b.encode().hex()}"
     seen = [
         (f"A/A 'A' | {amended(1, 'A', QA, '1.0')}", False),
-        (f"A/A 'A' | u17:8,71,'B' {put(UPGRADED, definition(17, bytes([8]) * 32, 71, QB), '1.0')}", False),
+        (f"A/A 'A' | u17:8,71,'B' {put(UPGRADED, Definition(17, bytes([8]) * 32, 71, QB), '1.0')}", False),
         (f"B/B OR('A','B') | {amended(2, 'A+B', QA, '1.0')} {after_b}", True),
         (f"B/B OR('A','B') | {amended(2, 'A+B', QA, '1.1')} {after_b}", False),
         (f"B/B OR('A','B') | {amended(2, 'A+B', QA, '2.0')} {after_b}", False),
@@ -223,8 +191,8 @@ def endorsements() -> list[Row]:
         (f"B/B OR('A','B') | {amended(2, 'A+B', QA, '1.511')} {twice}", True),
         (f"B/B OR('A','B') | {amended(2, 'A+B', QA, '2.0')} {twice}", True),
         (f"B/B OR('A','B') | {amended(2, 'A+B', QA, '3.0')} {twice}", False),
-        (f"A/A 'A' | u17:8,71,'B' {put(UPGRADED, definition(17, bytes([8]) * 32, 71, QB), '1.0')} / w:0x006b76=1", True),
-        (f"A/A 'A' | u17:8,71,'B' {put(UPGRADED, definition(17, bytes([8]) * 32, 71, QB), '2.0')} / w:0x006b76=1", False),
+        (f"A/A 'A' | u17:8,71,'B' {put(UPGRADED, Definition(17, bytes([8]) * 32, 71, QB), '1.0')} / w:0x006b76=1", True),
+        (f"A/A 'A' | u17:8,71,'B' {put(UPGRADED, Definition(17, bytes([8]) * 32, 71, QB), '2.0')} / w:0x006b76=1", False),
     ]
     one_key = [
         (f"A/A 'A' | {amended(1, 'A!C+B', QA)}", True),
@@ -232,9 +200,9 @@ def endorsements() -> list[Row]:
         (f"A/A 'A' | {amended(1, 'A!B+B!C', QA)}", True),
         (f"A/A 'A' | {amended(1, 'A!B+B!B', QA)}", False),
         (f"A/A 'A' | {amended(1, 'A!B', QA)}", True),
-        (f"B!B AND('A','B') | r:0x006b76@- / w:0x00=0x{membership(1, members('A!B+B'), 'AND(' + QA + ',' + QB + ')').hex()}", False),
-        (f"A!B,B!B AND('A','B') | r:0x006b76@- / w:0x00=0x{membership(1, members('A!B+B'), 'AND(' + QA + ',' + QB + ')').hex()}", False),
-        (f"A!C,B!B AND('A','B') | r:0x006b76@- / w:0x00=0x{membership(1, members('A!C+B'), 'AND(' + QA + ',' + QB + ')').hex()}", True),
+        (f"B!B AND('A','B') | r:0x006b76@- / w:0x00=0x{Membership(1, members('A!B+B'), 'AND(' + QA + ',' + QB + ')').encode().hex()}", False),
+        (f"A!B,B!B AND('A','B') | r:0x006b76@- / w:0x00=0x{Membership(1, members('A!B+B'), 'AND(' + QA + ',' + QB + ')').encode().hex()}", False),
+        (f"A!C,B!B AND('A','B') | r:0x006b76@- / w:0x00=0x{Membership(1, members('A!C+B'), 'AND(' + QA + ',' + QB + ')').encode().hex()}", True),
     ]
     rows = [(f"endorsed A,B {case}", endorsed) for case, endorsed in cases + seen]
     rows += [(f"endorsed A,B! {case}", endorsed) for case, endorsed in one_key]
@@ -245,11 +213,11 @@ def simulations() -> list[Row]:
     call = "kv() r:0x006b76@{} w:a=1"
 
     def upgraded(form: int, fuel: int, policy: str) -> str:
-        value = definition(form, b"\7" * 32, fuel, policy)
+        value = Definition(form, b"\7" * 32, fuel, policy)
         return f"kv := {form} {'07' * 32} {fuel} {policy} {put(UPGRADED, value)}"
 
     def amended(serial: int, seen: str = "-") -> str:
-        return f"members := {serial} A 'A' {put(AMENDED, membership(serial, [member('A')], QA), seen)}"
+        return f"members := {serial} A 'A' {put(AMENDED, Membership(serial, [Member('A')], QA), seen)}"
 
     cases = [
         ("u17:7,71,'A' | ", f"{upgraded(17, 71, QA)} / {call.format('1.0')}"),

@@ -2,19 +2,19 @@
 """Writes genesis.json, events.jsonl and the key files of example_keys beside this file: three organisations that share a
 register of pallets, and put its second version in the place of the first.
 
-The versions are ../chaincode/asset_register.wasm and asset_register_2.wasm. The forged envelope is laid out here, by
-docs/RULES.md, since no peer hands one out.
+The versions are ../chaincode/asset_register.wasm and asset_register_2.wasm. The forged envelope is made here, since no peer
+hands one out.
 """
 import hashlib
 import json
 import pathlib
-import struct
 import sys
 
 sys.dont_write_bytecode = True
 HERE = pathlib.Path(__file__).resolve().parent
-sys.path.insert(0, str(HERE.parents[1] / "python"))
+sys.path[:0] = [str(HERE.parents[1] / folder) for folder in ("node", "python")]
 import rfc8032
+from regtuma.wire import Call, Endorsement, Envelope, Payload, Read, Write
 
 PEERS = ["Maker", "Carrier", "Shop"]
 # Seeds that everybody has. Those of `./ledger keygen` come from chance.
@@ -72,23 +72,12 @@ def commit(envelopes: int) -> None:
         line("commit", peer=peer)
 
 
-def short(data: bytes) -> bytes:
-    return bytes([len(data)]) + data
-
-
-def value(data: bytes) -> bytes:
-    return struct.pack(">H", len(data)) + data
-
-
 def forged() -> bytes:
     """A transfer of pallet-8 that no peer has seen, with tags that nobody made."""
-    key = b"asset/pallet-8"
-    proposal = short(CHAINCODE.encode()) + value(b"transfer pallet-8 Thief") + bytes.fromhex("%032x" % 99)
-    reads = short(b"\0" + CHAINCODE.encode()) + b"\0" + short(key) + b"\1" + struct.pack(">II", 1, 1)
-    write = short(key) + b"\1" + value(b"Thief")
-    payload = proposal + value(b"") + struct.pack(">H", 2) + reads + struct.pack(">H", 0) + struct.pack(">H", 1) + write
-    tags = [b"\0" + short(org.encode()) + bytes(64) for org in ("Maker", "Carrier")]
-    return payload + bytes([len(tags)]) + b"".join(tags)
+    key, proposal = b"asset/pallet-8", Call(CHAINCODE, b"transfer pallet-8 Thief", (99).to_bytes(16, "big"))
+    reads = [Read(b"\0" + CHAINCODE.encode(), None), Read(key, (1, 1))]
+    payload = Payload(proposal, reads=reads, writes=[Write(key, b"Thief")])
+    return Envelope(payload.encode(), [Endorsement(org, bytes(64)) for org in ("Maker", "Carrier")]).encode()
 
 
 def create_pallets() -> None:

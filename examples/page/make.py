@@ -1,5 +1,5 @@
 #!/usr/bin/env python3
-"""Makes chains to try the page on, as lines of `show`: bytes, hashes and flags by docs/RULES.md, worked out here.
+"""Makes chains to try the page on, as lines of `show`. It works out hashes and flags by docs/RULES.md; bytes are the node's codec's.
 
     examples/page/make.py BLOCKS > chain.jsonl
 
@@ -11,12 +11,13 @@ import json
 import pathlib
 import random
 import re
-import struct
 import sys
-from collections.abc import Callable, Iterable, Iterator
+from collections.abc import Iterable, Iterator
 
-sys.path.insert(0, str(pathlib.Path(__file__).resolve().parents[2] / "python"))
+ROOT = pathlib.Path(__file__).resolve().parents[2]
+sys.path[:0] = [str(ROOT / "node"), str(ROOT / "python")]
 import rfc8032
+from regtuma import wire
 
 ORGS = ["Maker", "Carrier", "Shop"]
 
@@ -47,86 +48,41 @@ def digest(data: bytes) -> str:
     return hashlib.sha256(data).hexdigest()
 
 
-def short(data: bytes) -> bytes:
-    return bytes([len(data)]) + data
-
-
-def long(data: bytes) -> bytes:
-    return struct.pack(">H", len(data)) + data
-
-
-def version_bytes(version: str) -> bytes:
-    return struct.pack(">II", *map(int, version.split(".")))
-
-
-def optional(data: str | None, spell: Callable[[str], bytes]) -> bytes:
-    return b"\0" if data is None else b"\1" + spell(data)
-
-
-def many(items: list[dict], spell: Callable[[dict], bytes]) -> bytes:
-    return struct.pack(">H", len(items)) + b"".join(map(spell, items))
-
-
-def few(items: list[dict], spell: Callable[[dict], bytes]) -> bytes:
-    return bytes([len(items)]) + b"".join(map(spell, items))
-
-
 def field(item: dict, name: str) -> bytes:
     return bytes.fromhex(item[name])
 
 
-def definition_bytes(it: dict) -> bytes:
-    return bytes([it["profile"]]) + field(it, "module") + struct.pack(">I", it["fuel"]) + long(it["policy"].encode())
+def place_of(version: str) -> wire.Version:
+    block, place = version.split(".")
+    return int(block), int(place)
 
 
-def member_bytes(it: dict) -> bytes:
-    return short(it["name"].encode()) + optional(it.get("public"), bytes.fromhex)
-
-
-def membership_bytes(it: dict) -> bytes:
-    return b"\1" + struct.pack(">I", it["serial"]) + few(it["members"], member_bytes) + long(it["policy"].encode())
-
-
-def proposal_bytes(tx: dict) -> bytes:
+def proposal_of(tx: dict) -> wire.Proposal:
     if "amend" in tx:
-        return b"\x80" + membership_bytes(tx["amend"]) + field(tx, "nonce")
+        return wire.Amendment(wire.Membership.of(tx["amend"]), field(tx, "nonce"))
     if "upgrade" in tx:
-        return b"\0" + short(tx["chaincode"].encode()) + definition_bytes(tx["upgrade"]) + field(tx, "nonce")
-    return short(tx["chaincode"].encode()) + long(field(tx, "arg")) + field(tx, "nonce")
+        return wire.Upgrade(tx["chaincode"], wire.Definition.of(tx["upgrade"]), field(tx, "nonce"))
+    return wire.Call(tx["chaincode"], field(tx, "arg"), field(tx, "nonce"))
 
 
-def read_bytes(it: dict) -> bytes:
-    return short(field(it, "key")) + optional(it["version"], version_bytes)
-
-
-def entry_bytes(it: dict) -> bytes:
-    return short(field(it, "key")) + version_bytes(it["version"])
-
-
-def range_bytes(it: dict) -> bytes:
-    return short(field(it, "start")) + short(field(it, "end")) + bytes([it["limit"]]) + few(it["entries"], entry_bytes)
-
-
-def write_bytes(it: dict) -> bytes:
-    return short(field(it, "key")) + optional(it["value"], lambda value: long(bytes.fromhex(value)))
-
-
-def endorsement_bytes(it: dict) -> bytes:
-    tag = field(it, "tag")
-    return (b"\0" if len(tag) == 64 else b"") + short(it["org"].encode()) + tag
+def payload_bytes(tx: dict) -> bytes:
+    reads = [wire.Read(field(it, "key"), it["version"] and place_of(it["version"])) for it in tx["reads"]]
+    ranges = [wire.Range(field(it, "start"), field(it, "end"), it["limit"],
+                         [(field(entry, "key"), place_of(entry["version"])) for entry in it["entries"]]) for it in tx["ranges"]]
+    writes = [wire.Write(field(it, "key"), None if it["value"] is None else field(it, "value")) for it in tx["writes"]]
+    return wire.Payload(proposal_of(tx), field(tx, "result"), reads, ranges, writes).encode()
 
 
 def envelope_bytes(tx: dict) -> bytes:
-    sets = many(tx["reads"], read_bytes) + many(tx["ranges"], range_bytes) + many(tx["writes"], write_bytes)
-    return proposal_bytes(tx) + long(field(tx, "result")) + sets + few(tx["endorsements"], endorsement_bytes)
+    return wire.Envelope(payload_bytes(tx), [wire.Endorsement(it["org"], field(it, "tag")) for it in tx["endorsements"]]).encode()
 
 
 def data_bytes(txs: list[dict]) -> bytes:
-    return many(txs, lambda tx: struct.pack(">I", len(envelope_bytes(tx))) + envelope_bytes(tx))
+    return wire.counted([wire.sized(envelope_bytes(tx), 4) for tx in txs], 2)
 
 
 def header_hash(block: dict) -> str:
-    return digest(struct.pack(">I", block["block"]) + field(block, "previous") + field(block, "data"))
+    return digest(block["block"].to_bytes(4, "big") + field(block, "previous") + field(block, "data"))
 
 
 def public_of(seed: bytes) -> str:
@@ -169,8 +125,8 @@ class Chain:
               "ranges": [{"start": a.hex(), "end": b.hex(), "limit": n, "entries": self.entries(a, b, n)} for a, b, n in ranges],
               "writes": [{"key": key.hex(), "value": None if value is None else value.hex()} for key, value in sorted(writes)],
               "endorsements": []}
-        tx["id"] = digest(proposal_bytes(tx))
-        tx["endorsements"] = [{"org": org.lstrip("!"), "tag": self.tag(org, envelope_bytes(tx)[:-1])} for org in orgs]
+        tx["id"] = digest(proposal_of(tx).encode())
+        tx["endorsements"] = [{"org": org.lstrip("!"), "tag": self.tag(org, payload_bytes(tx))} for org in orgs]
         return tx
 
     def tag(self, org: str, payload: bytes) -> str:
@@ -186,7 +142,7 @@ class Chain:
 
     def upgrade(self, module: bytes, policy: str = POLICY, orgs: list[str] = ORGS[:2], profile: int = CLOSED) -> dict:
         upgrade = {"profile": profile, "module": module.hex(), "fuel": 100000, "policy": policy}
-        what, write = {"chaincode": CHAINCODE, "upgrade": upgrade}, (DEFINITION_KEY, definition_bytes(upgrade))
+        what, write = {"chaincode": CHAINCODE, "upgrade": upgrade}, (DEFINITION_KEY, wire.Definition.of(upgrade).encode())
         return self.proposed(what, [DEFINITION_KEY], [], [write], orgs)
 
     def amendment(self, members: list[dict], policy: str | None = None, orgs: list[str] = ORGS, serial: int | None = None,
@@ -194,7 +150,7 @@ class Chain:
         """By default the next one, to the policy of two of the members."""
         names = [it["name"] for it in members]
         amend = {"serial": self.serial + 1 if serial is None else serial, "members": members, "policy": policy or two_of(names)}
-        return self.proposed({"amend": amend}, [MEMBERSHIP_KEY], [], [(MEMBERSHIP_KEY, membership_bytes(amend))], orgs, claimed)
+        return self.proposed({"amend": amend}, [MEMBERSHIP_KEY], [], [(MEMBERSHIP_KEY, wire.Membership.of(amend).encode())], orgs, claimed)
 
     def entries(self, start: bytes, end: bytes, limit: int) -> list[dict]:
         keys = sorted(key for key in self.state if key[0] and start <= key and (not end or key < end))
@@ -282,11 +238,6 @@ class Chain:
 
 def text_of(lines: Iterable[dict]) -> str:
     return "".join(json.dumps(line, separators=(",", ":")) + "\n" for line in lines)
-
-
-def place_of(version: str) -> list[int]:
-    """The block and the place of a version."""
-    return [int(number) for number in version.split(".")]
 
 
 def key_of(number: int) -> bytes:

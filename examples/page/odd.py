@@ -11,14 +11,13 @@ import json
 import pathlib
 import random
 import subprocess
-import sys
 from typing import Any
 
+# This comes first: it says where the modules of the node and of python/ lie.
 import make
-
-ROOT = pathlib.Path(__file__).resolve().parent.parent.parent
-sys.path.insert(0, str(ROOT / "python"))
 import rfc8032
+from make import ROOT
+from regtuma.wire import Definition, Membership
 
 EXAMPLE = json.loads((ROOT / "examples/assets/genesis.json").read_text())
 EXAMPLE_KEYS = ROOT / "examples/assets/example_keys"
@@ -115,7 +114,7 @@ class Odd:
 
     def endorsed(self, tx: dict) -> dict:
         """The transaction with tags, of which some are wrong, of nobody or there twice."""
-        payload = make.envelope_bytes({**tx, "endorsements": []})[:-1]
+        payload = make.payload_bytes(tx)
         tags, count = [], self.chance.choice([0, 1, 2, 3, 3, 4, 5, 6]) if "arg" in tx else 8
         names = ["Maker", "Carrier", "Shop", "Nobody", *(name for name in self.members if name not in ORGS)]
         for org in self.chance.choices(names, weights=[6, 6, 6, 1] + [3] * (len(names) - 4), k=count):
@@ -141,7 +140,7 @@ class Odd:
         policy = self.chance.choice(POLICIES if self.often(0.6) else NO_POLICIES)
         profile, fuel = self.chance.choices([1, 17, 2, 18], weights=[6, 5, 1, 1])[0], self.chance.choice([1, 71, 10000000])
         definition = {"profile": profile, "module": module, "fuel": fuel, "policy": policy}
-        put = make.definition_bytes(definition if self.often(0.95) else {**definition, "fuel": 5})
+        put = Definition.of(definition if self.often(0.95) else {**definition, "fuel": 5}).encode()
         tx: dict[str, Any] = {
             "chaincode": name, "upgrade": definition, "nonce": "%032x" % self.made, "result": "" if self.often(0.95) else "00",
             "reads": [{"key": own.hex(), "version": self.version(own)}], "ranges": [] if self.often(0.95) else self.ranges(),
@@ -181,7 +180,7 @@ class Odd:
         serial = self.serial + 1 if self.often(0.9) else self.chance.choice([0, self.serial, self.serial + 2, 2**32 - 1])
         listed = [{"name": name} if key is None else {"name": name, "public": key} for name, key in members.items()]
         amend, own = {"serial": serial, "members": listed, "policy": policy}, make.MEMBERSHIP_KEY
-        put = make.membership_bytes(amend)
+        put = Membership.of(amend).encode()
         self.memberships[put] = amend
         tx: dict[str, Any] = {
             "amend": amend, "nonce": "%032x" % self.made, "result": "" if self.often(0.95) else "00",

@@ -14,7 +14,7 @@ from .links import Link
 from .load import Held
 from .proposals import Refused, call_of, check, checked, organisations_of
 from .waiting import together
-from .wire import Object, envelope, id_of, proposal_bytes
+from .wire import Object, envelope, id_of, proposal_of
 
 TOO_LARGE = 421
 TRIES = 12
@@ -238,7 +238,7 @@ class Gateway:
 
     async def faults(self, proposal: Object, answers: dict[str, Object], own: Object | None) -> dict[str, str]:
         """What is wrong with endorsements, by who gave them: none of them is put."""
-        begin, keys, faults = proposal_bytes(proposal).hex(), await self.chain.standing(), {}
+        begin, keys, faults = proposal_of(proposal).encode().hex(), await self.chain.standing(), {}
         for organisation, said in answers.items():
             if "payload" not in said:
                 continue

@@ -11,9 +11,7 @@ from cryptography.exceptions import InvalidSignature
 from cryptography.hazmat.primitives.asymmetric.ed25519 import Ed25519PublicKey
 
 from .peer import Peer
-
-# What an endorsement by a signature begins with, which is no name's length.
-SIGNED = b"\0"
+from .wire import HMAC, SIGNATURE, Endorsement
 
 
 @dataclasses.dataclass(frozen=True)
@@ -33,8 +31,8 @@ class Key:
 
     def endorses(self, organisation: str, endorsement: bytes, payload: bytes) -> bool:
         """Whether these bytes are the organisation's endorsement of a payload by this key."""
-        begin = (b"" if self.shared else SIGNED) + bytes([len(organisation)]) + organisation.encode()
-        return endorsement.startswith(begin) and self.is_right(endorsement[len(begin):], payload)
+        tag = endorsement[-(HMAC if self.shared else SIGNATURE):]
+        return endorsement == Endorsement(organisation, tag).encode() and self.is_right(tag, payload)
 
 
 class Keys:

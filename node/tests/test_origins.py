@@ -6,7 +6,7 @@ import support
 from regtuma import config, gateway, origins, wire
 from regtuma.links import Link
 from regtuma.origins import Origins, id_in
-from regtuma.wire import id_of, proposal_bytes, proposal_in
+from regtuma.wire import id_of, proposal_in, proposal_of
 from test_chain import Case
 
 NONCE = "07" * 16
@@ -19,16 +19,16 @@ AMENDMENT = {"members": MEMBERS, "policy": "'Maker'" + " " * 1000, "serial": 7, 
 
 def envelope(proposal: dict, rest: str = "0" * 18) -> str:
     """An envelope of a proposal, as far as that goes: what is behind it."""
-    return proposal_bytes(proposal).hex() + rest
+    return proposal_of(proposal).encode().hex() + rest
 
 
 class Ids(unittest.TestCase):
     def test_an_envelope_begins_with_its_proposal(self):
         for proposal in (CALL, {**CALL, "arg": "-"}, LONG, UPGRADE, AMENDMENT):
-            self.assertEqual(proposal_in(proposal_bytes(proposal) + b"more"), proposal_bytes(proposal))
+            self.assertEqual(proposal_in(proposal_of(proposal).encode() + b"more"), proposal_of(proposal).encode())
             for made in (envelope(proposal), envelope(proposal, "").upper(), envelope(proposal, "ab" * 9999)):
                 self.assertEqual(id_in(made.encode()), id_of(proposal))
-        self.assertEqual(len(proposal_bytes(LONG)), wire.LONGEST_PROPOSAL)
+        self.assertEqual(len(proposal_of(LONG).encode()), wire.LONGEST_PROPOSAL)
 
     def test_what_is_no_envelope_has_no_id(self):
         for line in (b"tick", b"seen Shop 7 00", b"", b"0", b"00", b"80", b"8001", b"800100000001ff00", b"\xff"):

@@ -4,15 +4,15 @@ use Rattle.std.proofs.Common.{OnOk, OnErr, IfErr, refl, sym, ap, subst, ◌∙�
 use Rattle.std.proofs.lemmas.List.{append-nil, length-append}
 use Rattle.std.specs.Io.KnownBytes.{Keeps}
 use Rattle.cli_lines.specs.Texts.{line}
-use Rattle.cli_lines.specs.Told.{Told, Answers, Begins, IsBrokenOff, IsMore, Prints, PrintsNothing, PrintsPart, Says, Tells}
+use Rattle.cli_lines.specs.Told.{Told, Answers, IsBrokenOff, IsMore, Prints, PrintsNothing, PrintsPart, Says, Tells}
 use Rattle.cli_lines.specs.declared.failure.Failure.{Failure}
 use Rattle.cli_lines.specs.declared.failure.Failure.TheVariants as failure
-use Rattle.cli_lines.proofs.Answering.{begins_nothing, prints_kept}
-use Rattle.cli_lines.proofs.Printing.{part_then, prints_none, prints_then}
+use Rattle.cli_lines.proofs.Answering.{prints_kept}
+use Rattle.cli_lines.proofs.Printing.{part_first, part_none, part_then, part_whole, prints_none, prints_then}
 use Rattle.cli_lines.proofs.Silence.{and_more}
 use Rattle.cli_peer.proofs.Lines.{lines_none, lines_more, all_lines, first_lines}
 use Rattle.cli_peer.specs.Input.{Input, IsNext, TakesLines}
-use Rattle.cli_peer.specs.Filters.{AreDone, ComesTo, DoesOrEnds, EndAtLast, Filters, FiltersBegin, IsEndedBy, PrintsSo}
+use Rattle.cli_peer.specs.Filters.{AreDone, BeginsSo, ComesTo, DoesOrEnds, Filters, FiltersTo, IsEndedBy, PrintsSo}
 
 -- ---- a task by its parts
 
@@ -27,14 +27,6 @@ pub ended_by : (A : Type 0) (Does Ends : List ℕ → Type 0) (t u : Told) (e : 
     → Answers (DoesOrEnds {A = A} Does Ends) t u (Err e)
 ended_by A Does Ends t u e said (inl lost) ends = inl lost.0
 ended_by A Does Ends t u e said (inr by) ends = inr (line said, (by.0, ends), by.1)
-
--- what it comes to is more than that
-pub comes_by : {A : Type 0} (Does Ends Done Ended : List ℕ → Type 0) → ((text : List ℕ) → Does text → Done text)
-    → ((text : List ℕ) → Ends text → Ended text) → (t u : Told) (r : Result A Failure) → Answers (DoesOrEnds Does Ends) t u r
-    → Answers (DoesOrEnds Done Ended) t u r
-comes_by Does Ends Done Ended does ends t u r (inl lost) = inl lost
-comes_by Does Ends Done Ended does ends t u (Ok a) (inr c) = inr (c.0, does c.0 c.1, c.2)
-comes_by Does Ends Done Ended does ends t u (Err e) (inr c) = inr (c.0, (c.1.0, ends c.0 c.1.1), c.2)
 
 -- what was told before is told
 says_then : (t u v : Told) (e : Failure) → t.printed ≤ u.printed → Says u v e → Says t v e
@@ -91,69 +83,58 @@ pub handed_so : {A : Type 0} (P Q : List ℕ → Type 0) (t u v : Told) (r : Res
 handed_so P Q t u v (Ok a) more so tells kept = (so.0, more so.0 so.1, prints_kept t u v so.0 so.2 tells.0 tells.1 kept)
 handed_so P Q t u v (Err e) more so tells kept = tt
 
--- ---- a task that is broken off
-
--- by the line that says why it ends, or before it
-pub begins_ended : (A : Type 0) (Whole : List ℕ → Type 0) (t u : Told) (e : Failure) (said : List ℕ) → IsEndedBy said t u e → Begins {A = A} Whole t u (Err e)
-begins_ended A Whole t u e said (inl lost) = begins_nothing {A = A} Whole t u (Err e) lost.1
-begins_ended A Whole t u e said (inr by) = λ broken. absurd (subst (λ (f : Failure). IsBrokenOff f) by.0 broken)
-
--- before its one text
-pub begins_still : {A : Type 0} (Whole : List ℕ → Type 0) (t u : Told) (r : Result A Failure) → OnErr r (PrintsNothing t u) → Begins Whole t u r
-begins_still Whole t u (Ok a) none = λ broken. absurd broken
-begins_still Whole t u (Err e) none = λ broken. inl none
-
--- a part of a text of which more than that is so, or nothing
-pub begins_more : {A : Type 0} (P Q : List ℕ → Type 0) (t u : Told) (r : Result A Failure) → ((text : List ℕ) → P text → Q text)
-    → PrintsNothing t u ⊎ ((whole : List ℕ) × P whole × PrintsPart t u whole) → Begins Q t u r
-begins_more P Q t u r more (inl none) = λ broken. inl none
-begins_more P Q t u r more (inr part) = λ broken. inr (part.0, more part.0 part.1, part.2)
+-- ---- a task whose text is begun
 
 -- a text, and nothing behind it
 pub part_ended : (t u v : Told) (text : List ℕ) → Prints t u text → PrintsNothing u v → PrintsPart t v text
 part_ended t u v text prints none = record { text = text; rest = []; mid = u; parts = sym (append-nil text); prints = prints; end = none }
 
--- behind a whole text of which more than that is so
-pub begins_behind_so : {A : Type 0} (P Q : List ℕ → Type 0) (t u v : Told) (r : Result A Failure) → ((text : List ℕ) → P text → Q text) → PrintsSo P t u
-    → OnErr r (PrintsNothing u v) → Begins Q t v r
-begins_behind_so P Q t u v (Ok a) more so none = λ broken. absurd broken
-begins_behind_so P Q t u v (Err e) more so none = λ broken. inr (so.0, more so.0 so.1, part_ended t u v so.0 so.2 none)
+-- by the line that says why it ends
+pub start_ended : (Is : List ℕ → Type 0) (t u : Told) (e : Failure) (said : List ℕ) → IsEndedBy said t u e → Is (line said) → BeginsSo Is t u
+start_ended Is t u e said (inl lost) is = inl lost.1
+start_ended Is t u e said (inr by) is = inr (line said, is, part_whole t u (line said) by.1)
 
--- what it comes to is more than that
-pub comes_more : (Does Ends Done Ended : List ℕ → Type 0) → ((text : List ℕ) → Does text → Done text) → ((text : List ℕ) → Ends text → Ended text)
-    → (text : List ℕ) → ComesTo Does Ends text → ComesTo Done Ended text
-comes_more Does Ends Done Ended does ends text (inl is) = inl (does text is)
-comes_more Does Ends Done Ended does ends text (inr is) = inr (ends text is)
+-- by its one text, or not
+pub start_text : {A : Type 0} (Is : List ℕ → Type 0) (t u : Told) (r : Result A Failure) (text : List ℕ) → OnOk r (Prints t u text)
+    → OnErr r (PrintsNothing t u) → Is text → BeginsSo Is t u
+start_text Is t u (Ok a) text prints none is = inr (text, is, part_whole t u text prints)
+start_text Is t u (Err e) text prints none is = inl none
+
+-- by some text of which more than that is so, or not
+pub start_so : {A : Type 0} (P Q : List ℕ → Type 0) (t u : Told) (r : Result A Failure) → ((text : List ℕ) → P text → Q text) → OnOk r (PrintsSo P t u)
+    → OnErr r (PrintsNothing t u) → BeginsSo Q t u
+start_so P Q t u (Ok a) more so none = inr (so.0, more so.0 so.1, part_whole t u so.0 so.2)
+start_so P Q t u (Err e) more so none = inl none
+
+-- of which more than that is so
+pub start_by : (P Q : List ℕ → Type 0) (t u : Told) → ((text : List ℕ) → P text → Q text) → BeginsSo P t u → BeginsSo Q t u
+start_by P Q t u more (inl none) = inl none
+start_by P Q t u more (inr part) = inr (part.0, more part.0 part.1, part.2)
+
+-- and which is handed on, or not
+pub start_handed : {A : Type 0} (P Q : List ℕ → Type 0) (t u v : Told) (r : Result A Failure) → ((text : List ℕ) → P text → Q text) → PrintsSo P t u
+    → Tells u v r → Keeps u.bytes v.bytes → OnErr r (PrintsNothing u v) → BeginsSo Q t v
+start_handed P Q t u v (Ok a) more so tells kept none =
+    inr (so.0, more so.0 so.1, part_whole t v so.0 (prints_kept t u v so.0 so.2 tells.0 tells.1 kept))
+start_handed P Q t u v (Err e) more so tells kept none = inr (so.0, more so.0 so.1, part_ended t u v so.0 so.2 none)
+
+-- behind a text
+abbrev pub Behind : (front : List ℕ) → (List ℕ → Type 0) → List ℕ → Type 0
+Behind front Rest text = (rest : List ℕ) × Rest rest × (text ≡ front ++ rest)
+
+pub start_front : (front : List ℕ) (Rest : List ℕ → Type 0) (t u : Told) → PrintsPart t u front → Rest [] → BeginsSo (Behind front Rest) t u
+start_front front Rest t u part none = inr (front ++ [], ([], none, refl), part_first t u front [] part)
+
+pub start_behind : (front : List ℕ) (Rest : List ℕ → Type 0) (t u v : Told) → Prints t u front → Rest [] → BeginsSo Rest u v
+    → BeginsSo (Behind front Rest) t v
+start_behind front Rest t u v prints none (inl nothing) = inr (front ++ [], ([], none, refl), part_then t u v front [] prints (part_none u v [] nothing))
+start_behind front Rest t u v prints none (inr part) =
+    inr (front ++ part.0, (part.0, part.1, refl), part_then t u v front part.0 prints part.2)
 
 -- ---- lines
 
 pub next_by : (before after : Input) (there b : Bool) → IsNext there before after → there ≡ b → IsNext b before after
 next_by before after there b next is = subst (λ (k : Bool). IsNext k before after) is next
-
--- what is so of each line is more than that
-module _ {S : Type 0} (Does Done : ℕ → S → List ℕ → List ℕ → S → Type 0)
-    (more : (number : ℕ) (old : S) (l text : List ℕ) (new : S) → Does number old l text new → Done number old l text new) where
-  more_done : (ls : List (List ℕ)) (number : ℕ) (old new : S) (text : List ℕ) → AreDone Does number old ls text new → AreDone Done number old ls text new
-  more_done [] number old new text d = d
-  more_done (l ∷ ls) number old new text d =
-      (d.0, d.1, d.2, more number old l d.0 d.2 d.3, more_done ls (number + 1) d.2 new d.1 d.4, d.5)
-
-  pub filters_by : {A : Type 0} (Ends : ℕ → S → List ℕ → List ℕ → Type 0) (old : S) (input : Option (List ℕ)) (r : Result A Failure) (text : List ℕ)
-      → Filters Does Ends old input r text → Filters Done Ends old input r text
-  filters_by Ends old input (Ok a) text f = (f.0, (f.1.0, (f.1.1.0, more_done f.0 1 old f.1.1.0 text f.1.1.1)))
-  filters_by Ends old input (Err e) text f =
-      let d = f.1.1.1 in
-      (f.0, (f.1.0, (f.1.1.0, (d.0, d.1, d.2, d.3, d.4, d.5, more_done d.0 1 old d.4 d.2 d.6, d.7, d.8))))
-
-  more_begun : (Ends : ℕ → S → List ℕ → List ℕ → Type 0) (old : S) (lines : List (List ℕ)) (text : List ℕ)
-      → ((new : S) × AreDone Does 1 old lines text new) ⊎ EndAtLast Does Ends old lines text
-      → ((new : S) × AreDone Done 1 old lines text new) ⊎ EndAtLast Done Ends old lines text
-  more_begun Ends old lines text (inl d) = inl (d.0, more_done lines 1 old d.0 text d.1)
-  more_begun Ends old lines text (inr d) = inr (d.0, d.1, d.2, d.3, d.4, d.5, more_done d.0 1 old d.4 d.2 d.6, d.7, d.8)
-
-  pub filters_begin_by : (Ends : ℕ → S → List ℕ → List ℕ → Type 0) (old : S) (input : Option (List ℕ)) (text : List ℕ)
-      → FiltersBegin Does Ends old input text → FiltersBegin Done Ends old input text
-  filters_begin_by Ends old input text f = (f.0, f.1, more_begun Ends old f.0 text f.2)
 
 module _ {S : Type 0} (Does : ℕ → S → List ℕ → List ℕ → S → Type 0) where
   -- one line more
@@ -236,7 +217,7 @@ module _ {S : Type 0} (Does : ℕ → S → List ℕ → List ℕ → S → Type
               c.1.0,
               (
                 first_lines input after.left (h.lines ++ l ∷ []) (lines_more h.lines input before after h.taken is),
-                (h.lines, l, h.text, c.0, mid, refl, h.done, end, refl),
+                (mid, (h.lines, l, h.text, c.0, refl, h.done, end, refl)),
               ),
             ),
           ),
@@ -244,76 +225,87 @@ module _ {S : Type 0} (Does : ℕ → S → List ℕ → List ℕ → S → Type
         )
 
     -- nothing is printed yet
-    pub none_begun : (old : S) (input : Option (List ℕ)) → FiltersBegin Does Ends old input []
-    none_begun old input = ([], first_lines input input [] (lines_none input), inl (old, (refl, refl)))
-
-    -- it was broken off behind lines that were done
-    pub begins_lines : {A : Type 0} (input left : Option (List ℕ)) (old : S) (number : ℕ) (new : S) (t u v : Told) (r : Result A Failure)
-        → HasDone input left old number new t u → PrintsNothing u v → Begins (FiltersBegin Does Ends old input) t v r
-    begins_lines input left old number new t u v r h none =
-        λ broken.
-        inr (h.text, (h.lines, first_lines input left h.lines h.taken, inl (new, h.done)), part_ended t u v h.text h.prints none)
-
-    -- it was broken off where the next line was to be read
-    pub begins_between : {A : Type 0} (input left : Option (List ℕ)) (old : S) (number : ℕ) (new : S) (t u v : Told) (r : Result A Failure)
-        → HasDone input left old number new t u → PrintsPart u v [] → Begins (FiltersBegin Does Ends old input) t v r
-    begins_between input left old number new t u v r h part =
-        λ broken. inr (
-          h.text,
-          (h.lines, first_lines input left h.lines h.taken, inl (new, h.done)),
-          subst (λ (s : List ℕ). PrintsPart t v s) (append-nil h.text) (part_then t u v h.text [] h.prints part),
-        )
-
-    -- lines that were done, and one of which a beginning was printed
-    begun_line : (input : Option (List ℕ)) (before after : Input) (old mid new : S) (number : ℕ) (t u v : Told) (whole : List ℕ)
-        → HasDone input before.left old number mid t u → IsNext true before after
-        → ComesTo (λ text. Does number mid after.last text new) (Ends number mid after.last) whole → PrintsPart u v whole
-        → (text : List ℕ) × FiltersBegin Does Ends old input text × PrintsPart t v text
-    begun_line input before after old mid new number t u v whole h is (inl does) part =
-        let l = after.last in
-        let at : number ≡ 1 + length h.lines = omega (arith, h.next) in
-        let done = done_more h.lines 1 old mid new l h.text whole h.done (subst (λ (n : ℕ). Does n mid l whole new) at does) in (
-          h.text ++ whole,
-          (
-            h.lines ++ l ∷ [],
-            first_lines input after.left (h.lines ++ l ∷ []) (lines_more h.lines input before after h.taken is),
-            inl (new, done),
-          ),
-          part_then t u v h.text whole h.prints part,
-        )
-    begun_line input before after old mid new number t u v whole h is (inr ends) part =
-        let l = after.last in
-        let end : Ends (length h.lines + 1) mid l whole = subst (λ (n : ℕ). Ends n mid l whole) h.next ends in (
-          h.text ++ whole,
-          (
-            h.lines ++ l ∷ [],
-            first_lines input after.left (h.lines ++ l ∷ []) (lines_more h.lines input before after h.taken is),
-            inr (h.lines, l, h.text, whole, mid, refl, h.done, end, refl),
-          ),
-          part_then t u v h.text whole h.prints part,
-        )
-
-    -- it was broken off in a line
-    begins_line : (A : Type 0) (input : Option (List ℕ)) (before after : Input) (old mid new : S) (number : ℕ) (t u v : Told) (e : Failure)
-        → HasDone input before.left old number mid t u → IsNext true before after
-        → Begins {A = A} (ComesTo (λ text. Does number mid after.last text new) (Ends number mid after.last)) u v (Err e)
-        → Begins {A = A} (FiltersBegin Does Ends old input) t v (Err e)
-    begins_line A input before after old mid new number t u v e h is begins = λ broken. elim (begins broken) [
-      | inl none ↦ begins_lines {A = A} input before.left old number mid t u v (Err e) h none broken
-      | inr part ↦ inr (begun_line input before after old mid new number t u v part.0 h is part.1 part.2)
-    ]
+    pub none_begun : (old : S) (input : Option (List ℕ)) → FiltersTo Does Ends old input [] old
+    none_begun old input = ([], first_lines input input [] (lines_none input), inl (refl, refl))
 
     -- the next line ended it, or it was broken off there
     pub line_ended : (A : Type 0) (input : Option (List ℕ)) (before after : Input) (there : Bool) (lent : List ℕ) (old mid new : S) (number : ℕ) (t u v : Told)
         (e : Failure) → HasDone input before.left old number mid t u → IsNext there before after → there ≡ true → lent ≡ after.last → Tells {A = A} u v (Err e)
         → Answers {A = A} (DoesOrEnds (λ text. Does number mid lent text new) (Ends number mid lent)) u v (Err e)
-        → Begins {A = A} (ComesTo (λ text. Does number mid lent text new) (Ends number mid lent)) u v (Err e)
-        → Tells {A = A} t v (Err e) × Answers {A = A} (Filters Does Ends old input) t v (Err e) × Begins {A = A} (FiltersBegin Does Ends old input) t v (Err e)
-    line_ended A input before after there lent old mid new number t u v e h next is same tells does begins =
+        → Tells {A = A} t v (Err e) × Answers {A = A} (Filters Does Ends old input) t v (Err e)
+    line_ended A input before after there lent old mid new number t u v e h next is same tells does =
         let here = next_by before after there true next is in (
           tells_then t u v e h.prints.more tells,
           last_done A input before after old mid new number t u v e h here
               (subst (λ (l : List ℕ). Answers {A = A} (DoesOrEnds (λ text. Does number mid l text new) (Ends number mid l)) u v (Err e)) same does),
-          begins_line A input before after old mid new number t u v e h here
-              (subst (λ (l : List ℕ). Begins {A = A} (ComesTo (λ text. Does number mid l text new) (Ends number mid l)) u v (Err e)) same begins),
         )
+
+    -- ---- lines of which something was told, and what is so of what the filter has behind them
+
+    module _ (Is : S → Type 0) where
+      abbrev pub LeadSo : S → Option (List ℕ) → List ℕ → Type 0
+      LeadSo old input text = (last : S) × FiltersTo Does Ends old input text last × Is last
+
+      -- nothing was told of the next one
+      pub lines_told : (input left : Option (List ℕ)) (old : S) (number : ℕ) (new : S) (t u v : Told) → HasDone input left old number new t u
+          → PrintsPart u v [] → Is new → BeginsSo (LeadSo old input) t v
+      lines_told input left old number new t u v h part is = inr (
+        h.text,
+        (new, (h.lines, first_lines input left h.lines h.taken, inl h.done), is),
+        subst (λ (s : List ℕ). PrintsPart t v s) (append-nil h.text) (part_then t u v h.text [] h.prints part),
+      )
+
+      -- of the next one a beginning
+      begun_line : (input : Option (List ℕ)) (before after : Input) (old mid new : S) (number : ℕ) (t u v : Told) (whole : List ℕ)
+          → HasDone input before.left old number mid t u → IsNext true before after → Is mid
+          → ComesTo (λ text. Does number mid after.last text new × Is new) (Ends number mid after.last) whole → PrintsPart u v whole
+          → BeginsSo (LeadSo old input) t v
+      begun_line input before after old mid new number t u v whole h is first (inl does) part =
+          let l = after.last in
+          let at : number ≡ 1 + length h.lines = omega (arith, h.next) in
+          let here = subst (λ (n : ℕ). Does n mid l whole new) at does.0 in
+          inr (
+            h.text ++ whole,
+            (
+              new,
+              (
+                h.lines ++ l ∷ [],
+                first_lines input after.left (h.lines ++ l ∷ []) (lines_more h.lines input before after h.taken is),
+                inl (done_more h.lines 1 old mid new l h.text whole h.done here),
+              ),
+              does.1,
+            ),
+            part_then t u v h.text whole h.prints part,
+          )
+      begun_line input before after old mid new number t u v whole h is first (inr ends) part =
+          let l = after.last in
+          let end : Ends (length h.lines + 1) mid l whole = subst (λ (n : ℕ). Ends n mid l whole) h.next ends in
+          inr (
+            h.text ++ whole,
+            (
+              mid,
+              (
+                h.lines ++ l ∷ [],
+                first_lines input after.left (h.lines ++ l ∷ []) (lines_more h.lines input before after h.taken is),
+                inr (h.lines, l, h.text, whole, refl, h.done, end, refl),
+              ),
+              first,
+            ),
+            part_then t u v h.text whole h.prints part,
+          )
+
+      next_told : (input : Option (List ℕ)) (before after : Input) (old mid new : S) (number : ℕ) (t u v : Told)
+          → HasDone input before.left old number mid t u → IsNext true before after → Is mid
+          → BeginsSo (ComesTo (λ text. Does number mid after.last text new × Is new) (Ends number mid after.last)) u v → BeginsSo (LeadSo old input) t v
+      next_told input before after old mid new number t u v h is first (inl none) =
+          lines_told input before.left old number mid t u v h (part_none u v [] none) first
+      next_told input before after old mid new number t u v h is first (inr part) =
+          begun_line input before after old mid new number t u v part.0 h is first part.1 part.2
+
+      -- of the next one, of which these bytes are lent, what is told so far
+      pub line_told : (input : Option (List ℕ)) (before after : Input) (there : Bool) (lent : List ℕ) (old mid new : S) (number : ℕ) (t u v : Told)
+          → HasDone input before.left old number mid t u → IsNext there before after → there ≡ true → lent ≡ after.last → Is mid
+          → BeginsSo (ComesTo (λ text. Does number mid lent text new × Is new) (Ends number mid lent)) u v → BeginsSo (LeadSo old input) t v
+      line_told input before after there lent old mid new number t u v h next is same first told =
+          next_told input before after old mid new number t u v h (next_by before after there true next is) first
+          (subst (λ (l : List ℕ). BeginsSo (ComesTo (λ text. Does number mid l text new × Is new) (Ends number mid l)) u v) same told)

@@ -1,5 +1,7 @@
 -- What a peer leaves in its store.
-use Rattle.std.proofs.Common.{◌≡◌, ◌∙◌, ℕ, Bool, true, false, [], Option, Some, None, IfSome, Result, Ok, Err, OnOk, ap, refl, subst, sym}
+use Rattle.std.proofs.Common.{◌≡◌, ◌∙◌, ◌++◌, inl, inr, ℕ, Bool, true, false, [], Option, Some, None, IfSome, Result, Ok, Err, OnOk, ap, refl, subst, sym}
+use Rattle.std.specs.List.{flat_map}
+use Rattle.block_store.specs.Record.{record_bytes}
 use Rattle.ledger_model.specs.Chain.{Bytes, Chain}
 use Rattle.ledger_setting.specs.Rule.{table_of}
 use Rattle.store_replay.specs.Lawful.{AreLawful}
@@ -9,21 +11,22 @@ use Rattle.log_peer.specs.Storing.{IsOpened}
 use Rattle.log_peer.specs.declared.peering.LogPeer.{LogPeer}
 use Rattle.log_peer.proofs.Keeping.{grows_none, grows_on, same_records}
 use Rattle.cli_lines.specs.Places.{FilesHeld}
-use Rattle.cli_lines.specs.Told.{Told}
+use Rattle.cli_lines.specs.Told.{PrintsNothing, Told}
 use Rattle.cli_peer.specs.Answering.{Peer}
 use Rattle.cli_peer.specs.Input.{Input, IsNext}
-use Rattle.cli_peer.specs.Keeping.{HoldsReached, KeepsStore, LeadTo, Reaches, StoresOn}
+use Rattle.cli_peer.specs.Filters.{BeginsSo, ComesTo}
+use Rattle.cli_peer.specs.Keeping.{HoldsChain, HoldsReached, KeepsStore, KeepsTold, LeadTo, Reaches, StartsWith, StoresOn, TellsLine, TellsLines, TellsStored}
 use Rattle.cli_peer.specs.Logged.{Reached}
-use Rattle.cli_peer.specs.Peering.{DoesLine, opened}
-use Rattle.cli_peer.proofs.Filters.{HasDone, next_by}
+use Rattle.cli_peer.specs.Opening.{ComesBehind, TellsUnopened}
+use Rattle.cli_peer.specs.Peering.{DoesLine, LinesTo, PeersBegin, opened}
+use Rattle.cli_peer.specs.Running.{reached}
+use Rattle.cli_peer.specs.declared.peering.Reader.{Reader}
+use Rattle.cli_peer.proofs.Filters.{HasDone, next_by, start_by}
 use Rattle.cli_peer.proofs.Lines.{all_lines}
 
 -- ---- a peer that reads
 
 module _ {D : Type 0} (contents : D → Option Bytes) where
-  abbrev Holds : LogPeer D → Type 0
-  Holds p = HoldsRecords (contents (file_of p)) (held_by p).chain
-
   -- nothing was read
   pub stores_none : {A E : Type 0} (p : LogPeer D) (answer : Result A E) → StoresOn contents p p answer
   stores_none p (Ok a) = (grows_none (contents (file_of p)), λ holds. holds)
@@ -31,15 +34,73 @@ module _ {D : Type 0} (contents : D → Option Bytes) where
 
   -- all was read, whatever is answered
   pub stores_read : {A E : Type 0} (old new : LogPeer D) (answer : Result A E) → Grows (contents (file_of old)) (contents (file_of new))
-      → (Holds old → Holds new) → StoresOn contents old new answer
+      → (HoldsChain contents old → HoldsChain contents new) → StoresOn contents old new answer
   stores_read old new (Ok a) grows holds = (grows, holds)
   stores_read old new (Err e) grows holds = (grows, λ held. tt)
 
   -- one behind another
   pub stores_then : {A E : Type 0} (old mid new : LogPeer D) (answer : Result A E) → Grows (contents (file_of old)) (contents (file_of mid))
-      → (Holds old → Holds mid) → StoresOn contents mid new answer → StoresOn contents old new answer
+      → (HoldsChain contents old → HoldsChain contents mid) → StoresOn contents mid new answer → StoresOn contents old new answer
   stores_then old mid new answer grows holds next =
       (grows_on (contents (file_of old)) (contents (file_of mid)) (contents (file_of new)) grows next.0, λ held. next.1 (holds held))
+
+-- ---- what was told
+
+-- records stand first where they stood alone
+pub starts_grown : (before after : Option Bytes) (chain : Chain) → HoldsRecords before chain → Grows before after → StartsWith after chain
+starts_grown None after chain holds grows = absurd (cc)
+starts_grown (Some held) None chain holds grows = absurd grows.1
+starts_grown (Some held) (Some all) chain holds grows =
+    let bytes : held ≡ flat_map record_bytes chain = cc in
+    (grows.0, ap (λ (l : Bytes). Some l) (grows.1 ∙ ap (λ (l : Bytes). l ++ grows.0) bytes))
+
+module _ {D : Type 0} (contents : D → Option Bytes) where
+  -- the records of this chain stand first in the file of the new peer, where the old one's held those of its own
+  abbrev pub Starts : (old new : LogPeer D) → Chain → Type 0
+  Starts old new chain = HoldsChain contents old → StartsWith (contents (file_of new)) chain
+
+  -- of the new chain
+  pub starts_same : (old new : LogPeer D) → (HoldsChain contents old → HoldsChain contents new) → Starts old new (held_by new).chain
+  starts_same old new holds =
+      λ held. starts_grown (contents (file_of new)) (contents (file_of new)) (held_by new).chain (holds held) (grows_none (contents (file_of new)))
+
+  -- of the old chain
+  pub starts_old : {A E : Type 0} (old new : LogPeer D) (answer : Result A E) → StoresOn contents old new answer → Starts old new (held_by old).chain
+  starts_old old new answer stores = λ held. starts_grown (contents (file_of old)) (contents (file_of new)) (held_by old).chain held stores.0
+
+  -- of the chain behind others
+  pub starts_then : {A E : Type 0} (old mid new : LogPeer D) (answer : Result A E) → (HoldsChain contents old → HoldsChain contents mid)
+      → StoresOn contents mid new answer → Starts old new (held_by mid).chain
+  starts_then old mid new answer holds stores = λ held. starts_old mid new answer stores (holds held)
+
+  module _ (old mid new : LogPeer D) (holds : HoldsChain contents old → HoldsChain contents mid) (Does Ends : Bytes → Type 0) where
+    so_starts : (text : Bytes) → ComesTo (λ t. Does t × (HoldsChain contents mid → HoldsChain contents new)) Ends text
+        → ComesTo (λ t. Does t × Starts old new (held_by new).chain) Ends text
+    so_starts text (inl does) = inl (does.0, starts_same old new (λ held. does.1 (holds held)))
+    so_starts text (inr ends) = inr ends
+
+    -- of the chain of a line of which something was told, behind others
+    pub line_starts : (t u : Told) → TellsLine contents mid new Does Ends t u
+        → BeginsSo (ComesTo (λ text. Does text × Starts old new (held_by new).chain) Ends) t u
+    line_starts t u told =
+        start_by (ComesTo (λ text. Does text × (HoldsChain contents mid → HoldsChain contents new)) Ends)
+        (ComesTo (λ text. Does text × Starts old new (held_by new).chain) Ends) t u so_starts told
+
+  -- a peer that was opened told a beginning of what it comes to
+  pub peer_begins : (p : Peer) (input held : Option Bytes) (old new : Reader D) (cut : ℕ) (t u : Told) → IsOpened held (held_by old.peer).chain cut
+      → AreLawful (table_of p.log.genesis.rules.value) [] (held_by old.peer).chain → reached old ≡ opened p (held_by old.peer).chain
+      → BeginsSo (ComesBehind (held_by old.peer).chain cut (TellsLines contents p old new input)) t u → BeginsSo (PeersBegin p held input) t u
+  peer_begins p input held old new cut t u opens lawful is told =
+      let chain = (held_by old.peer).chain in
+      start_by (ComesBehind chain cut (TellsLines contents p old new input)) (PeersBegin p held input) t u
+      (λ text behind. inl (
+        chain,
+        cut,
+        opens,
+        lawful,
+        (behind.0, (behind.1.0, subst (λ (r : Reached). LinesTo p r input behind.0 behind.1.0) is behind.1.1), behind.2),
+      ))
+      told
 
 -- all lines were done
 pub all_lead : (p : Peer) (input : Option Bytes) (before after : Input) (there : Bool) (old new : Reached) (number : ℕ) (t u : Told)
@@ -64,6 +125,32 @@ reached_by p input (Some held) left after first cut from new opens lawful is lea
   closed ∙ holds,
 )
 
+told_left : (p : Peer) (input held left after : Option Bytes) (first : Chain) (cut : ℕ) (from : Reached) (Holds : Type 0) (t u : Told)
+    → IsOpened held first cut → AreLawful (table_of p.log.genesis.rules.value) [] first → from ≡ opened p first → IfSome held (λ _. Holds)
+    → IfSome held (λ _. after ≡ left)
+    → BeginsSo (ComesBehind first cut (λ rest. (last : Reached) × LinesTo p from input rest last × (Holds → StartsWith left last.held.chain))) t u
+    → IfSome held (λ bytes. BeginsSo (TellsStored p bytes input after) t u)
+told_left p input None left after first cut from Holds t u opens lawful is holds closed told = tt
+told_left p input (Some held) left after first cut from Holds t u opens lawful is holds closed told =
+    start_by (ComesBehind first cut (λ rest. (last : Reached) × LinesTo p from input rest last × (Holds → StartsWith left last.held.chain)))
+    (TellsStored p held input after) t u
+    (λ text behind. let last = behind.1.0 in inl (
+      first,
+      cut,
+      opens,
+      lawful,
+      (
+        behind.0,
+        (
+          last,
+          subst (λ (r : Reached). LinesTo p r input behind.0 last) is behind.1.1,
+          subst (λ (o : Option Bytes). StartsWith o last.held.chain) (sym closed) (behind.1.2 holds),
+        ),
+        behind.2,
+      ),
+    ))
+    told
+
 -- the file of a name, which held these bytes, is closed with others left in it
 module _ (known : Bool) (name : Bytes) (before closing after : FilesHeld) (file left : Option Bytes) (there : known ≡ true → file ≡ before name)
     (same : closing ≡ before) (closed : known ≡ true → IfSome (closing name) (λ _. after name ≡ left)) where
@@ -84,10 +171,41 @@ module _ (known : Bool) (name : Bytes) (before closing after : FilesHeld) (file 
       (subst (λ (o : Option Bytes). IfSome o (λ _. HoldsRecords left new.held.chain)) own holds) (closed_so writes)
   closed_holds p input first cut from new (Err e) opens lawful is leads holds = tt
 
+  pub closed_told : (p : Peer) (input : Option Bytes) (first : Chain) (cut : ℕ) (from : Reached) (Holds : Type 0) (t u : Told)
+      → IsOpened file first cut → AreLawful (table_of p.log.genesis.rules.value) [] first → from ≡ opened p first → IfSome file (λ _. Holds)
+      → BeginsSo (ComesBehind first cut (λ rest. (last : Reached) × LinesTo p from input rest last × (Holds → StartsWith left last.held.chain))) t u
+      → KeepsTold known p name input before after t u
+  closed_told p input first cut from Holds t u opens lawful is holds told =
+      λ writes. let own = there writes in
+      told_left p input (before name) left (after name) first cut from Holds t u (subst (λ (o : Option Bytes). IsOpened o first cut) own opens) lawful is
+      (subst (λ (o : Option Bytes). IfSome o (λ _. Holds)) own holds) (closed_so writes) told
+
 -- what was held, and what was left as that was read on
 pub held_then : {X : Type 0} (held : Option X) (P Q : Type 0) → IfSome held (λ _. P) → (P → Q) → IfSome held (λ _. Q)
 held_then None P Q first next = tt
 held_then (Some x) P Q first next = next first
+
+-- ---- a file of which nothing was told but that it is not opened, or nothing at all
+
+unopened_by : (p : Peer) (input held left : Option Bytes) (t u : Told) → BeginsSo (TellsUnopened p.log.genesis.rules.value held) t u
+    → IfSome held (λ bytes. BeginsSo (TellsStored p bytes input left) t u)
+unopened_by p input None left t u told = tt
+unopened_by p input (Some held) left t u told =
+    start_by (TellsUnopened p.log.genesis.rules.value (Some held)) (TellsStored p held input left) t u (λ text is. inr is) told
+
+pub unopened_told : (known : Bool) (p : Peer) (name : Bytes) (input file : Option Bytes) (before after : FilesHeld) (t u : Told)
+    → (known ≡ true → file ≡ before name) → BeginsSo (TellsUnopened p.log.genesis.rules.value file) t u → KeepsTold known p name input before after t u
+unopened_told known p name input file before after t u there told =
+    λ is. unopened_by p input (before name) (after name) t u
+    (subst (λ (o : Option Bytes). BeginsSo (TellsUnopened p.log.genesis.rules.value o) t u) (there is) told)
+
+nothing_by : (p : Peer) (input held left : Option Bytes) (t u : Told) → PrintsNothing t u → IfSome held (λ bytes. BeginsSo (TellsStored p bytes input left) t u)
+nothing_by p input None left t u none = tt
+nothing_by p input (Some held) left t u none = inl none
+
+pub told_nothing : (known : Bool) (p : Peer) (name : Bytes) (input : Option Bytes) (before after : FilesHeld) (t u : Told) → PrintsNothing t u
+    → KeepsTold known p name input before after t u
+told_nothing known p name input before after t u none = λ is. nothing_by p input (before name) (after name) t u none
 
 -- ---- a file that stays, and then is opened
 
@@ -106,6 +224,11 @@ holds_from known p name input before mid after (Ok a) same holds =
     λ is. subst (λ (o : Option Bytes). IfSome o (λ held. (chain : Chain) × Reaches p (Some held) input chain × HoldsRecords (after name) chain)) (same is)
     (holds is)
 holds_from known p name input before mid after (Err e) same holds = tt
+
+pub told_from : (known : Bool) (p : Peer) (name : Bytes) (input : Option Bytes) (before mid after : FilesHeld) (t u : Told)
+    → (known ≡ true → mid name ≡ before name) → KeepsTold known p name input mid after t u → KeepsTold known p name input before after t u
+told_from known p name input before mid after t u same told =
+    λ is. subst (λ (o : Option Bytes). IfSome o (λ bytes. BeginsSo (TellsStored p bytes input (after name)) t u)) (same is) (told is)
 
 -- all files stay
 pub keeps_all : (known : Bool) (name : Bytes) (before after : FilesHeld) → after ≡ before → KeepsStore known name before after

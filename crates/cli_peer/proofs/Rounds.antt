@@ -16,10 +16,11 @@ use Rattle.cli_lines.specs.Texts.{line}
 use Rattle.cli_peer.specs.Answering.{Peer, Says}
 use Rattle.cli_peer.specs.Input.{HasNoEnd, Input, IsNext, IsTaken}
 use Rattle.cli_peer.specs.Lines.{Asks, Said, said_in}
-use Rattle.cli_peer.specs.Rounds.{AreKnown, IsAnswerTo, IsFilled, IsKnown, ReadsBehind, ReadsOn, left_behind}
+use Rattle.cli_peer.specs.Rounds.{AreKnown, IsAnswerTo, IsFilled, IsKnown, IsRound, ReadsBehind, ReadsOn, left_behind}
 use Rattle.cli_peer.specs.Spoken.{answer_text}
 use Rattle.cli_peer.specs.declared.answer.Answer.{Answer}
 use Rattle.cli_peer.specs.declared.line.Request.{Request}
+use Rattle.cli_peer.specs.declared.round.Round.{Round}
 
 abbrev line_of : Vec ℕ → List ℕ
 line_of l = line l.items
@@ -180,6 +181,14 @@ pub known_asked : (p : Peer) (chain : Chain) (l : Bytes) (known : Option Answer)
     Some (Asks request tag words) ≡ said_in (utf8_lossy l) → IfSome known (λ a. Says p chain request words (answer_text a))
 known_asked p chain l None request tag words known says = tt
 known_asked p chain l (Some a) request tag words known says = subst (λ (s : Option Said). IsAnswerTo p chain s a) (sym says) known
+
+-- nothing is known any more
+pub round_forgotten : (p : Peer) (old new : Chain) (before after : Round) → IsRound p old before → after.answers.items ≡ []
+    → after.lines.items ≡ before.lines.items → IsRound p new after
+round_forgotten p old new before after is none same = (
+  subst (λ (ls : List (Vec ℕ)). All IsWhole ls) (sym same) is.0,
+  subst (λ (known : List (Option Answer)). AreKnown p new known after.lines.items) (sym none) tt,
+)
 
 -- ---- side by side
 

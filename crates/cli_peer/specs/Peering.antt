@@ -7,7 +7,7 @@ use Rattle.log_peer.specs.Peering.{fresh}
 use Rattle.cli_lines.specs.Texts.{bad_line, line}
 use Rattle.cli_lines.specs.declared.failure.Failure.{Failure}
 use Rattle.cli_peer.specs.Answering.{AnswersText, Peer}
-use Rattle.cli_peer.specs.Filters.{DoesOrEnds, Filters, FiltersBegin}
+use Rattle.cli_peer.specs.Filters.{DoesOrEnds, Filters, FiltersBegin, FiltersTo}
 use Rattle.cli_peer.specs.Lines.{Asks, Logs, Said, said_in}
 use Rattle.cli_peer.specs.Logged.{EndsEntry, IsLogged, Reached}
 use Rattle.cli_peer.specs.Opening.{ComesBehind, Opens, TellsUnopened}
@@ -50,9 +50,12 @@ EndsLine p number old l text = EndsSaid p old (said_in (utf8_lossy l)) text
 abbrev pub opened : Peer → Chain → Reached
 opened p chain = record { held = record { log = fresh p.log.genesis; chain = chain }; begun = false }
 
--- what the lines come to, from where a peer is, and what some first ones do
+-- what the lines come to, from where a peer is; what some first ones do, and where that leads
 abbrev pub PeersLines : {A : Type 0} → Peer → Reached → Option Bytes → Result A Failure → Bytes → Type 0
 PeersLines p = Filters (DoesLine p) (EndsLine p)
+
+abbrev pub LinesTo : Peer → Reached → Option Bytes → Bytes → Reached → Type 0
+LinesTo p = FiltersTo (DoesLine p) (EndsLine p)
 
 abbrev pub LinesBegin : Peer → Reached → Option Bytes → Bytes → Type 0
 LinesBegin p = FiltersBegin (DoesLine p) (EndsLine p)

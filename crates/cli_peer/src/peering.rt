@@ -13,12 +13,13 @@ ghost use Rattle.log_peer.specs.Peering.{IsPeer, file_of, fresh, held_by, rules_
 ghost use Rattle.log_peer.specs.Storing.{IsOpenRefused, IsOpened};
 ghost use Rattle.store_replay.specs.Lawful.{AreLawful};
 ghost use Rattle.cli_peer.specs.Answering.{AnswersText, Says as SaysBy};
-ghost use Rattle.cli_peer.specs.Filters.{ComesTo, DoesOrEnds, IsEndedBy, PrintsSo};
-ghost use Rattle.cli_peer.specs.Keeping.{HoldsReached, KeepsStore, LeadTo, StoresOn};
+ghost use Rattle.cli_peer.specs.Filters.{BeginsSo, DoesOrEnds, IsEndedBy, PrintsSo};
+ghost use Rattle.cli_peer.specs.Keeping.{HoldsReached, KeepsStore, KeepsTold, LeadTo, StoresOn};
+ghost use Rattle.cli_peer.specs.Keeping.{TellsLine, TellsLines};
 ghost use Rattle.cli_peer.specs.Logged.{EndsEntry, IsLogged};
 ghost use Rattle.cli_peer.specs.Marks.{NamesAnotherIn};
 ghost use Rattle.cli_peer.specs.Opening.{ComesBehind};
-ghost use Rattle.cli_peer.specs.Peering.{DoesAsked, DoesLine, EndsLine, LinesBegin, Peers};
+ghost use Rattle.cli_peer.specs.Peering.{DoesAsked, DoesLine, EndsLine, Peers};
 ghost use Rattle.cli_peer.specs.Peering.{PeersBegin, PeersLines, bad_text};
 ghost use Rattle.cli_peer.specs.Rounds.{IsKnown, IsRound, left_behind};
 ghost use Rattle.cli_peer.specs.Running.{IsReader, reached};
@@ -109,6 +110,9 @@ pub fn peer<T: Threads + Sync, F: Files, W: Write>(
     ensures holds { OnOk result
         (HoldsReached F.is_known (asked_by log.now asked.now) asked.now.store.now
         (F.input_bytes files.old) (F.bytes files.old) (F.bytes files.new)) }
+    // Whatever this answers, also where it is broken off, the store has each block that was told.
+    ensures told { KeepsTold F.is_known (asked_by log.now asked.now) asked.now.store.now
+        (F.input_bytes files.old) (F.bytes files.old) (F.bytes files.new) out.old out.new }
     // No other file is changed then.
     ensures others { ChangesOnly F.is_known (asked.now.store.now ∷ []) (F.bytes files.old)
         (F.bytes files.new) }
@@ -197,6 +201,8 @@ fn peer_to<T: Threads + Sync, F: Files, V: Watch + Drop, R: Read + Drop, W: Writ
     ensures holds { OnOk result
         (HoldsReached F.is_known (peer_of setting.now.answering) setting.now.store.now
         lines.old.left (F.bytes files.old) (F.bytes files.new)) }
+    ensures told { KeepsTold F.is_known (peer_of setting.now.answering) setting.now.store.now
+        lines.old.left (F.bytes files.old) (F.bytes files.new) out.old out.new }
     ensures others { ChangesOnly F.is_known (setting.now.store.now ∷ []) (F.bytes files.old)
         (F.bytes files.new) }
 {
@@ -234,10 +240,10 @@ fn peer_behind<T: Threads + Sync, F: Files, D: StoreFile, R: Read + Drop, W: Wri
         (PeersLines (peer_of setting.now.answering) (reached reader.old) lines.old.left answer)
         text)
         out.old out.new result }
-    ensures begins { Begins
+    ensures told { BeginsSo
         (ComesBehind (held_by reader.old.peer).chain cut
-        (LinesBegin (peer_of setting.now.answering) (reached reader.old) lines.old.left)) out.old
-        out.new result }
+        (TellsLines D.contents (peer_of setting.now.answering) reader.old reader.new
+        lines.old.left)) out.old out.new }
     ensures leads { OnOk result
         (LeadTo (peer_of setting.now.answering) (reached reader.old) lines.old.left
         (reached reader.new)) }
@@ -283,9 +289,9 @@ fn peer_lines<T: Threads + Sync, F: Files, D: StoreFile, R: Read + Drop, W: Writ
     ensures answers { Answers
         (PeersLines (peer_of setting.now.answering) (reached reader.old) lines.old.left) out.old
         out.new result }
-    ensures begins { Begins
-        (LinesBegin (peer_of setting.now.answering) (reached reader.old) lines.old.left) out.old
-        out.new result }
+    ensures told { BeginsSo
+        (TellsLines D.contents (peer_of setting.now.answering) reader.old reader.new
+        lines.old.left) out.old out.new }
     ensures leads { OnOk result
         (LeadTo (peer_of setting.now.answering) (reached reader.old) lines.old.left
         (reached reader.new)) }
@@ -312,9 +318,9 @@ fn do_lines<T: Threads + Sync, F: Files, D: StoreFile, R: Read + Drop, W: Write>
     ensures answers { Answers
         (PeersLines (peer_of setting.now.answering) (reached reader.old)
         (left_behind round.old.lines.items lines.old.left)) out.old out.new result }
-    ensures begins { Begins
-        (LinesBegin (peer_of setting.now.answering) (reached reader.old)
-        (left_behind round.old.lines.items lines.old.left)) out.old out.new result }
+    ensures told { BeginsSo
+        (TellsLines D.contents (peer_of setting.now.answering) reader.old reader.new
+        (left_behind round.old.lines.items lines.old.left)) out.old out.new }
     ensures leads { OnOk result
         (LeadTo (peer_of setting.now.answering) (reached reader.old)
         (left_behind round.old.lines.items lines.old.left) (reached reader.new)) }
@@ -364,12 +370,11 @@ fn take_line<T: Threads + Sync, F: Files, D: StoreFile, W: Write>(
         round.old.line.items text (reached reader.new))
         (EndsLine (peer_of setting.now.answering) number (reached reader.old)
         round.old.line.items)) out.old out.new result }
-    ensures begins { Begins
-        (ComesTo
+    ensures told { TellsLine D.contents reader.old.peer reader.new.peer
         (λ text. DoesLine (peer_of setting.now.answering) number (reached reader.old)
         round.old.line.items text (reached reader.new))
         (EndsLine (peer_of setting.now.answering) number (reached reader.old)
-        round.old.line.items)) out.old out.new result }
+        round.old.line.items) out.old out.new }
     ensures stores { StoresOn D.contents reader.old.peer reader.new.peer result }
     ensures kept { F.bytes files.new ≡ F.bytes files.old }
 {
@@ -503,12 +508,11 @@ fn take_entry<T: Threads + Sync, F: Files, D: StoreFile, W: Write>(
         entry.now.index.now entry.now.text.now text (reached reader.new))
         (EndsEntry setting.now.answering.log.now (reached reader.old) entry.now.text.now))
         out.old out.new result }
-    ensures begins { Begins
-        (ComesTo
+    ensures told { TellsLine D.contents reader.old.peer reader.new.peer
         (λ text. IsLogged setting.now.answering.log.now (reached reader.old)
         entry.now.index.now entry.now.text.now text (reached reader.new))
-        (EndsEntry setting.now.answering.log.now (reached reader.old) entry.now.text.now))
-        out.old out.new result }
+        (EndsEntry setting.now.answering.log.now (reached reader.old) entry.now.text.now)
+        out.old out.new }
     ensures handed_on { OnOk result (out.new.waits ≡ false) }
     ensures stores { StoresOn D.contents reader.old.peer reader.new.peer result }
     ensures kept { F.bytes files.new ≡ F.bytes files.old }

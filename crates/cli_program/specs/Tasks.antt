@@ -13,7 +13,7 @@ use Rattle.cli_words.specs.declared.task.Work.{Work}
 use Rattle.cli_words.specs.declared.task.Work.TheVariants as work
 use Rattle.cli_peer.specs.declared.log_genesis.LogGenesis.{LogGenesis}
 use Rattle.cli_peer.specs.Answering.{Peer}
-use Rattle.cli_peer.specs.Keeping.{HoldsReached}
+use Rattle.cli_peer.specs.Keeping.{HoldsReached, KeepsTold}
 use Rattle.cli_peer.specs.Peering.{Peers, PeersBegin}
 use Rattle.cli_show.specs.Modules.{Checks, Digests}
 use Rattle.cli_show.specs.Simulations.{Simulates}
@@ -82,6 +82,7 @@ Works log (work.Peer org store) k before after answer =
     let p : Peer = record { log = log; org = org } in
     Does (Peers p (k.before store.now) k.input) (PeersBegin p (k.before store.now) k.input) before after answer
     × OnOk answer (HoldsReached k.writes p store.now k.input k.before k.after)
+    × KeepsTold k.writes p store.now k.input k.before k.after before after
 Works log (work.Marks store) k before after answer = DoesAll (Marks log.genesis (k.before store.now)) before after answer
 
 -- the files of a genesis are read, and then this is done; or one of them is refused, nothing is printed, and all files stay

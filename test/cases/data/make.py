@@ -12,12 +12,12 @@ import hashlib
 import hmac
 import json
 import pathlib
-import struct
 import sys
 
 HERE = pathlib.Path(__file__).parent
-sys.path.insert(0, str(HERE.resolve().parents[2] / "python"))
+sys.path[:0] = [str(HERE.resolve().parents[2] / folder) for folder in ("node", "python")]
 import rfc8032
+from regtuma import wire
 
 KEYS = {"A": b"Jefe", "B": b"B"}
 PUT_A, GET_PUT_A = (
@@ -29,40 +29,22 @@ def short(data):
     return bytes([len(data)]) + data
 
 
-def value(data):
-    return struct.pack(">H", len(data)) + data
-
-
-def version(at):
-    return struct.pack(">II", *at)
-
-
-def payload(nonce, reads=(), ranges=(), writes=(), argument=b"", name=b"kv"):
+def payload(nonce, reads=(), ranges=(), writes=(), argument=b"", name="kv"):
     """A call. A read is a key and a version or None, a range its start, end, limit and entries, a write a key and a
     value."""
-    out = short(name) + value(argument) + bytes.fromhex("%032x" % nonce) + value(b"")
-    out += struct.pack(">H", len(reads))
-    for key, at in reads:
-        out += short(key) + (b"\0" if at is None else b"\1" + version(at))
-    out += struct.pack(">H", len(ranges))
-    for start, end, limit, entries in ranges:
-        out += short(start) + short(end) + bytes([limit, len(entries)])
-        out += b"".join(short(key) + version(at) for key, at in entries)
-    out += struct.pack(">H", len(writes))
-    for key, data in writes:
-        out += short(key) + b"\1" + value(data)
-    return out
+    proposal = wire.Call(name, argument, nonce.to_bytes(16, "big"))
+    lists = [wire.Read(*it) for it in reads], [wire.Range(*it) for it in ranges], [wire.Write(*it) for it in writes]
+    return wire.Payload(proposal, b"", *lists).encode()
 
 
-def call(nonce, reads=(), definition=None, name=b"kv", **rest):
+def call(nonce, reads=(), definition=None, name="kv", **rest):
     """The same, which reads its definition: of this version, or absent."""
-    return payload(nonce, [(b"\0" + name, definition), *reads], name=name, **rest)
+    return payload(nonce, [(b"\0" + name.encode(), definition), *reads], name=name, **rest)
 
 
 def envelope(data, orgs="A"):
     """A payload with the tags of organisations."""
-    tags = [short(org.encode()) + hmac.digest(KEYS[org], data, "sha256") for org in orgs]
-    return data + bytes([len(tags)]) + b"".join(tags)
+    return wire.Envelope(data, [wire.Endorsement(org, hmac.digest(KEYS[org], data, "sha256")) for org in orgs]).encode()
 
 
 def event(do, **fields):
@@ -245,7 +227,7 @@ scans += [event("commit", peer=0), finish(0, "e2"), begin(0, 3, chaincode="scan"
 write("scans.jsonl", scans + [event("commit", peer=0)])
 
 # An envelope of a chaincode that the genesis does not have.
-stranger = event("submit", hex=envelope(call(1, writes=puts(b"a"), name=b"zz")).hex())
+stranger = event("submit", hex=envelope(call(1, writes=puts(b"a"), name="zz")).hex())
 write("stranger.jsonl", [stranger, event("take"), event("commit", peer=0)])
 
 # An envelope whose last byte is missing, one with its writes out of order, one with a range of limit 0, and one with a byte
@@ -357,9 +339,9 @@ genesis("look.json", more=[("look", LOOK, 1)], seats=4)
 
 def recorded(number, link, envelopes, flags, data_hash=None):
     """A block as it is stored, behind a header with this hash, and the hash of its own header."""
-    data = struct.pack(">H", len(envelopes)) + b"".join(struct.pack(">I", len(one)) + one for one in envelopes)
-    header = struct.pack(">I", number) + link + (data_hash or hashlib.sha256(data).digest())
-    stored = struct.pack(">I", len(header + data)) + header + data + bytes(flags)
+    data = wire.counted([wire.sized(one, 4) for one in envelopes], 2)
+    header = number.to_bytes(4, "big") + link + (data_hash or hashlib.sha256(data).digest())
+    stored = wire.sized(header + data, 4) + bytes(flags)
     return stored + hashlib.sha256(stored).digest(), hashlib.sha256(header).digest()
 
 
@@ -432,15 +414,7 @@ def asks(*questions):
     return asking(*(("ask", it if isinstance(it, str) else json.dumps(it)) for it in questions))
 
 
-def header_hash(number, link, data):
-    return hashlib.sha256(struct.pack(">I", number) + link + hashlib.sha256(data).digest()).hexdigest()
-
-
-def block_data(*envelopes):
-    return struct.pack(">H", len(envelopes)) + b"".join(struct.pack(">I", len(one)) + one for one in map(bytes.fromhex, envelopes))
-
-
-SEEN = header_hash(1, NO_LINK, block_data(sized(1, 30), sized(2, 30)))
+SEEN = recorded(1, NO_LINK, [bytes.fromhex(sized(nonce, 30)) for nonce in (1, 2)], [])[1].hex()
 marks = [f"genesis {LIMITED}", "tick", sized(1, 30), sized(2, 30), "tick", sized(1, 30).upper()]
 marks += ["TICK", "tick ", "", "abc", "zz", sized(3, 30)[:-2], sized(3, 30) + "00", sized(3, 141)]
 marks += [envelope(call(1, writes=puts(b"b", b"a"))).hex(), envelope(call(1, ranges=[(b"a", b"c", 0, [])])).hex()]
@@ -513,9 +487,17 @@ write("signed.jsonl", both + [event("commit", peer=0)] * 3 + [event("commit", pe
 write("alone.jsonl", [begin(0, 0), finish(0, "e1"), *use("e1"), event("commit", peer=0)])
 
 
-def tag_of(org, tag):
-    """An endorsement by these bytes: an HMAC, or a signature behind a byte 0."""
-    return (b"" if len(tag) == 32 else b"\0") + short(org.encode()) + tag
+TAGS = {
+    "A": lambda data: wire.Endorsement("A", hmac.digest(KEYS["A"], data, "sha256")),
+    "old B": lambda data: wire.Endorsement("B", hmac.digest(KEYS["B"], data, "sha256")),
+    "no B": lambda data: wire.Endorsement("B", hmac.digest(b"", data, "sha256")),
+    "B": lambda data: wire.Endorsement("B", rfc8032.sign(SEEDS[0], data)),
+    "C": lambda data: wire.Endorsement("C", rfc8032.sign(SEEDS[1], data)),
+}
+
+
+def tagged(data, *signs):
+    return wire.Envelope(data, [TAGS[it](data) for it in signs]).encode()
 
 
 def turned(tag):
@@ -535,13 +517,12 @@ for nonce in range(1, 6):
         hmac.digest(PUBLIC[0], data, "sha256"),
         signature,
     ][nonce - 1]
-    one = data + b"\2" + tag_of("A", signature if nonce == 5 else shared) + tag_of("B", wrong)
+    one = wire.Envelope(data, [wire.Endorsement("A", signature if nonce == 5 else shared), wire.Endorsement("B", wrong)]).encode()
     forged += [event("submit", hex=one.hex()), event("take"), event("commit", peer=0)]
 write("forged.jsonl", forged)
 
 # A store of one block with both tags, and the same envelope as a line of a log.
-data = call(1, writes=puts(b"a"))
-one = data + b"\2" + tag_of("A", hmac.digest(KEYS["A"], data, "sha256")) + tag_of("B", rfc8032.sign(SEEDS[0], data))
+one = tagged(call(1, writes=puts(b"a")), "A", "B")
 stored, _ = record(1, NO_LINK, one=one)
 (HERE / "signed.store").write_bytes(stored)
 write("signed.log", log([one.hex(), one[:-1].hex()]))
@@ -553,7 +534,7 @@ OWN, LIE = hashlib.sha256(stored[4:72]).digest(), bytes(32)
 def seen(org, number, header, seed=SEEDS[0], ledger="signed.json", signed=None):
     """What an organisation says, with a signature by this seed, of what it says in this ledger, or of another number."""
     digest = hashlib.sha256((HERE / ledger).read_bytes()).digest()
-    data = b"\xffseen " + digest + struct.pack(">I", number if signed is None else signed) + header
+    data = b"\xffseen " + digest + (number if signed is None else signed).to_bytes(4, "big") + header
     return f"seen {org} {number} {header.hex()} {rfc8032.sign(seed, data).hex()}"
 
 
@@ -618,26 +599,17 @@ asked = [proposal(begin(0, 7)), proposal(upgrade(0, 8, **TO)), proposal(amend(0,
 write("open.lines", asking(*(("call", it) for it in asked)))
 
 
-def putting(proposed, key, data, reads):
-    """A payload of a proposal that reads these keys and puts data at one."""
-    out = proposed + value(b"") + struct.pack(">H", len(reads))
-    out += b"".join(short(read) + (b"\0" if at is None else b"\1" + version(at)) for read, at in reads)
-    return out + bytes(2) + struct.pack(">H", 1) + short(key) + b"\1" + value(data)
-
-
-def written(*parts):
-    """An envelope of such a payload with A's tag."""
-    return envelope(putting(*parts))
+def upgrading(nonce, form, policy, at=None, code=PUT_A, fuel=400):
+    """The payload of an upgrade of `kv` that read this version."""
+    definition = wire.Definition(form, hashlib.sha256(code).digest(), fuel, policy)
+    return wire.Payload.of_change(wire.Upgrade("kv", definition, nonce.to_bytes(16, "big")), at).encode()
 
 
 # The log of open.jsonl with modules.json, and its store.
-OPENED = b"\x11" + hashlib.sha256(GET_PUT_A).digest() + struct.pack(">I", 141) + value(b"'A'")
-NAMED = short(b"kv")
-called = [NAMED + value(b"") + bytes.fromhex("%032x" % nonce) for nonce in (1, 3)]
 opened = [
-    written(called[0], b"a", b"1", [(b"\0kv", None)]),
-    written(b"\0" + NAMED + OPENED + bytes.fromhex("%032x" % 2), b"\0kv", OPENED, [(b"\0kv", None)]),
-    written(called[1], b"a", b"1", [(b"\0kv", (2, 0)), (b"a", (1, 0))]),
+    envelope(call(1, writes=puts(b"a"))),
+    envelope(upgrading(2, 17, "'A'", code=GET_PUT_A, fuel=141)),
+    envelope(call(3, reads=[(b"a", (1, 0))], definition=(2, 0), writes=puts(b"a"))),
 ]
 stored = chain(*(([one], [0]) for one in opened))
 (HERE / "open.store").write_bytes(b"".join(stored))
@@ -667,36 +639,10 @@ write("members.jsonl", members)
 write("members-left.lines", asks(*({"ask": "satisfied", "chaincode": "kv", "orgs": orgs} for orgs in (["A"], ["A", "B"]))))
 
 
-def membership(serial, policy, *members):
-    out = b"\1" + struct.pack(">IB", serial, len(members))
-    for it in members:
-        out += short(it["name"].encode()) + (b"\1" + bytes.fromhex(it["public"]) if "public" in it else b"\0")
-    return out + value(policy.encode())
-
-
 def amending(nonce, serial, policy, *members, at=None):
     """The payload of an amendment that read this version."""
-    put = membership(serial, policy, *members)
-    return putting(b"\x80" + put + bytes.fromhex("%032x" % nonce), b"\0", put, [(b"\0", at)])
-
-
-def upgrading(nonce, form, policy, at=None):
-    """The payload of an upgrade of `kv` to its own module that read this version."""
-    put = bytes([form]) + hashlib.sha256(PUT_A).digest() + struct.pack(">I", 400) + value(policy.encode())
-    return putting(b"\0" + NAMED + put + bytes.fromhex("%032x" % nonce), b"\0kv", put, [(b"\0kv", at)])
-
-
-TAGS = {
-    "A": lambda data: tag_of("A", hmac.digest(KEYS["A"], data, "sha256")),
-    "old B": lambda data: tag_of("B", hmac.digest(KEYS["B"], data, "sha256")),
-    "no B": lambda data: tag_of("B", hmac.digest(b"", data, "sha256")),
-    "B": lambda data: tag_of("B", rfc8032.sign(SEEDS[0], data)),
-    "C": lambda data: tag_of("C", rfc8032.sign(SEEDS[1], data)),
-}
-
-
-def tagged(data, *signs):
-    return data + bytes([len(signs)]) + b"".join(TAGS[it](data) for it in signs)
+    membership = wire.Membership.of({"serial": serial, "members": members, "policy": policy})
+    return wire.Payload.of_change(wire.Amendment(membership, nonce.to_bytes(16, "big")), at).encode()
 
 
 # C joins, and B has a key of its own in the place of the one that is listed; then C leaves. Of a call that is begun before
@@ -846,13 +792,13 @@ calls += [{"chaincode": "kv", "args": texts} for texts in (["a", "b"], [])]
 calls += [{"chaincode": "kv", "args": [], "arg": ""}, {"chaincode": "kv", "args": ["a", 1]}, {"chaincode": "kv", "args": "a"}]
 calls += [{"chaincode": "kv", "arg": ["a"]}, {"chaincode": "kv", "args": ["a" * 2048, "b" * 2048]}]
 write("calls.lines", asks(*({"ask": "call", **it} for it in calls)))
-one = {"ask": "history", "key": "61"}
-write("one-question.lines", asks(one))
+question = {"ask": "history", "key": "61"}
+write("one-question.lines", asks(question))
 # A question, one that is no text, and one without its line's end.
-first, second, third = (it.encode() for it in asks(one, "?", one))
+first, second, third = (it.encode() for it in asks(question, "?", question))
 (HERE / "part-questions.lines").write_bytes(first + b"\n" + second.replace(b"?", b"\xff") + b"\n" + third)
 # Of the chain of members-keys.store: tags of B under the old key and the new one, and of C.
-of_call = hashlib.sha256(b"\2kv\0\0" + bytes.fromhex("%032x" % 4)).hexdigest()
+of_call = wire.id_of({"chaincode": "kv", "arg": "-", "nonce": "%032x" % 4})
 questions = [{"ask": "members"}, {"ask": "block", "number": 6}, {"ask": "block", "number": 7}]
 questions += [{"ask": "transaction", "id": of_call}]
 questions += [{"ask": "block", "number": 10}, {"ask": "get", "key": "00"}, {"ask": "history", "key": "00"}]

@@ -1,15 +1,16 @@
-use Rattle.std.proofs.Common.{◌∙◌, ◌+◌, ℕ, List, inl, Ok, Err, refl, subst, sym}
+use Rattle.std.proofs.Common.{◌∙◌, ◌+◌, ℕ, List, [], inl, Ok, Err, refl, subst, sym}
 use Rattle.std.proofs.lemmas.Result.{err_from_is_err_and}
 use Rattle.std.specs.Global.{Vec}
 use Rattle.cli_lines.specs.declared.failure.Failure.{Failure}
 use Rattle.cli_lines.specs.declared.failure.Failure.TheVariants as failure
-use Rattle.cli_lines.proofs.Printing.{nothing_same}
+use Rattle.cli_lines.proofs.Printing.{nothing_same, part_none}
+use Rattle.cli_peer.specs.Logged.{Reached}
 use Rattle.cli_peer.specs.Peering.{DoesLine, EndsLine}
 use Rattle.cli_peer.specs.Rounds.{input_of, left_behind}
 use Rattle.cli_peer.specs.Running.{reached}
 use Rattle.cli_peer.specs.Setting.{peer_of}
-use Rattle.cli_peer.proofs.Filters.{HasDone, all_done, begins_between, begins_lines, done_kept, line_ended, none_done, one_done, tells_then}
-use Rattle.cli_peer.proofs.Keeping.{all_lead, stores_none, stores_read, stores_then}
+use Rattle.cli_peer.proofs.Filters.{HasDone, all_done, done_kept, line_ended, line_told, lines_told, none_done, one_done, tells_then}
+use Rattle.cli_peer.proofs.Keeping.{Starts, all_lead, line_starts, starts_same, starts_then, stores_none, stores_read, stores_then}
 use Rattle.cli_peer.proofs.peering.do_lines.Goals as goal
 
 pub loop-number-init : goal.loop-number-init
@@ -60,6 +61,20 @@ returns-then-not-there-clause-answers g c =
     all_done (DoesLine p) (EndsLine p) (left_behind c.args.round.now.lines.items c.args.lines.now.left) (input_of c.loop-number.round c.loop-number.lines) (input_of c.next.new.self c.next.new.lines) c.in_ok-there.there first mid c.loop-number.number
     c.args.out.now t (tt {0}) told c.in_ok-there.ensures.next c.if-not-there.true
 
+pub returns-then-not-there-clause-told : goal.returns-then-not-there-clause-told
+returns-then-not-there-clause-told g c =
+    let contents = g.D.Write.contents in
+    let p = peer_of c.args.setting.now.answering in
+    let input = left_behind c.args.round.now.lines.items c.args.lines.now.left in
+    let left = left_behind c.loop-number.round.lines.items c.loop-number.lines.left in
+    let first = c.args.reader.now in
+    let mid = c.loop-number.reader in
+    let t = c.next.new.out in
+    let told = done_kept (DoesLine p) input left (reached first) c.loop-number.number (reached mid) c.args.out.now c.loop-number.out t
+    c.loop-number.invariant.done (λ text printed. c.in_ok-there.ensures.told c.args.out.now text printed) in
+    lines_told (DoesLine p) (EndsLine p) (λ (r : Reached). Starts contents first.peer mid.peer r.held.chain) input left (reached first) c.loop-number.number
+    (reached mid) c.args.out.now t t told (part_none t t [] (nothing_same t)) (starts_same contents first.peer mid.peer c.loop-number.invariant.stores.1)
+
 pub returns-then-not-there-clause-tells : goal.returns-then-not-there-clause-tells
 returns-then-not-there-clause-tells g c =
     let p = peer_of c.args.setting.now.answering in
@@ -84,12 +99,22 @@ returns-in_err-take_line g c =
     let u = c.take_line.new.out in
     let e = c.in_err-take_line.field-0.0 in
     let took = c.in_err-take_line.ensures in
-    let ended = line_ended (DoesLine p) (EndsLine p) (Unit {0}) (left_behind c.args.round.now.lines.items c.args.lines.now.left) (input_of c.loop-number.round c.loop-number.lines) (input_of c.next.new.self c.next.new.lines) c.in_ok-there.there lent
-    first mid new n c.args.out.now t u e told c.in_ok-there.ensures.next c.if-not-there.false refl took.tells took.does took.begins in
+    let input = left_behind c.args.round.now.lines.items c.args.lines.now.left in
+    let before = input_of c.loop-number.round c.loop-number.lines in
+    let after = input_of c.next.new.self c.next.new.lines in
+    let ended = line_ended (DoesLine p) (EndsLine p) (Unit {0}) input before after c.in_ok-there.there lent first mid new n c.args.out.now t u e told
+    c.in_ok-there.ensures.next c.if-not-there.false refl took.tells took.does in
+    let contents = g.D.Write.contents in
+    let one = c.args.reader.now.peer in
+    let two = c.loop-number.reader.peer in
+    let three = c.take_line.new.reader.peer in
+    let starts = line_starts contents one two three inv.stores.1 (λ text. DoesLine p n mid lent text new) (EndsLine p n mid lent) t u took.told in
     rw (by.1, by.2) (record {
       tells = ended.0;
       answers = ended.1;
-      begins = ended.2;
+      told = line_told (DoesLine p) (EndsLine p) (λ (r : Reached). Starts contents one three r.held.chain) input before after c.in_ok-there.there lent first mid
+          new n c.args.out.now t u told c.in_ok-there.ensures.next c.if-not-there.false refl
+          (starts_then contents {A = Unit {0}} one two three (Err e) inv.stores.1 took.stores) starts;
       leads = tt;
       stores = stores_then g.D.Write.contents {A = Unit {0}} c.args.reader.now.peer c.loop-number.reader.peer c.take_line.new.reader.peer (Err e) inv.stores.0 inv.stores.1
           took.stores;
@@ -104,21 +129,28 @@ returns-in_err-there g c =
       tells = tells_then c.args.out.now c.loop-number.out c.next.new.out c.in_err-there.field-0.0 c.loop-number.invariant.done.prints.more
           c.in_err-there.ensures.tells;
       answers = inl c.in_err-there.ensures.lost;
-      begins = begins_between (DoesLine p) (EndsLine p) {A = Unit {0}} (left_behind c.args.round.now.lines.items c.args.lines.now.left) (left_behind c.loop-number.round.lines.items c.loop-number.lines.left) (reached c.args.reader.now)
-          c.loop-number.number (reached c.loop-number.reader) c.args.out.now c.loop-number.out c.next.new.out (Err c.in_err-there.field-0.0)
-          c.loop-number.invariant.done c.in_err-there.ensures.part;
+      told = lines_told (DoesLine p) (EndsLine p) (λ (r : Reached). Starts g.D.Write.contents c.args.reader.now.peer c.loop-number.reader.peer r.held.chain)
+          (left_behind c.args.round.now.lines.items c.args.lines.now.left) (left_behind c.loop-number.round.lines.items c.loop-number.lines.left)
+          (reached c.args.reader.now) c.loop-number.number (reached c.loop-number.reader) c.args.out.now c.loop-number.out c.next.new.out
+          c.loop-number.invariant.done c.in_err-there.ensures.part
+          (starts_same g.D.Write.contents c.args.reader.now.peer c.loop-number.reader.peer c.loop-number.invariant.stores.1);
       leads = tt;
       stores = stores_read g.D.Write.contents {A = Unit {0}} c.args.reader.now.peer c.loop-number.reader.peer (Err c.in_err-there.field-0.0) c.loop-number.invariant.stores.0
           c.loop-number.invariant.stores.1;
       kept = c.in_err-there.ensures.kept ∙ c.loop-number.invariant.kept;
     })
 
-pub returns-clause-begins : goal.returns-clause-begins
-returns-clause-begins g c =
+pub returns-clause-told : goal.returns-clause-told
+returns-clause-told g c =
+    let contents = g.D.Write.contents in
     let p = peer_of c.args.setting.now.answering in
+    let first = c.args.reader.now in
+    let mid = c.loop-number.reader in
     let t = c.loop-number.out in
-    begins_lines (DoesLine p) (EndsLine p) {A = Unit {0}} (left_behind c.args.round.now.lines.items c.args.lines.now.left) (left_behind c.loop-number.round.lines.items c.loop-number.lines.left) (reached c.args.reader.now) c.loop-number.number
-    (reached c.loop-number.reader) c.args.out.now t t (Err failure.File) c.loop-number.invariant.done (nothing_same t)
+    lines_told (DoesLine p) (EndsLine p) (λ (r : Reached). Starts contents first.peer mid.peer r.held.chain)
+    (left_behind c.args.round.now.lines.items c.args.lines.now.left) (left_behind c.loop-number.round.lines.items c.loop-number.lines.left) (reached first)
+    c.loop-number.number (reached mid) c.args.out.now t t c.loop-number.invariant.done (part_none t t [] (nothing_same t))
+    (starts_same contents first.peer mid.peer c.loop-number.invariant.stores.1)
 
 pub returns-then-not-there-clause-kept : goal.returns-then-not-there-clause-kept
 returns-then-not-there-clause-kept g c = c.next.ensures.kept ∙ c.loop-number.invariant.kept

@@ -5,10 +5,10 @@ use Rattle.cli_lines.specs.Told.{Answers, Begins}
 use Rattle.cli_lines.proofs.Changes.{changes_from, changes_kept, changes_then}
 use Rattle.cli_lines.proofs.Printing.{nothing_same}
 use Rattle.cli_lines.proofs.Silence.{no_less, tells_by}
-use Rattle.cli_peer.specs.Keeping.{HoldsReached}
+use Rattle.cli_peer.specs.Keeping.{HoldsReached, KeepsTold}
 use Rattle.cli_peer.specs.Peering.{Peers, PeersBegin}
 use Rattle.cli_peer.specs.Setting.{asked_by}
-use Rattle.cli_peer.proofs.Keeping.{holds_from, keeps_from, keeps_same}
+use Rattle.cli_peer.proofs.Keeping.{holds_from, keeps_from, keeps_same, told_from, told_nothing}
 use Rattle.cli_peer.proofs.peering.peer.Goals as goal
 
 pub returns-in_default-clause-others : goal.returns-in_default-clause-others
@@ -28,6 +28,8 @@ returns-in_err-lines g c =
       keeps = keeps_same g.F.Files.is_known c.args.asked.now.store.now (bytes c.args.files.now) (bytes c.input.new.self)
           (λ is. ap (λ (h : FilesHeld). h c.args.asked.now.store.now) c.input.ensures.kept ∙ c.in-Some.ensures.there is);
       holds = tt;
+      told = told_nothing g.F.Files.is_known (asked_by c.args.log.now c.args.asked.now) c.args.asked.now.store.now (g.F.Files.input_bytes c.args.files.now)
+          (bytes c.args.files.now) (bytes c.input.new.self) c.args.out.now c.args.out.now (nothing_same c.args.out.now);
       others = changes_kept g.F.Files.is_known (c.args.asked.now.store.now ∷ []) (bytes c.args.files.now) (bytes c.open_store.new.self) (bytes c.input.new.self)
           c.input.ensures.kept c.open_store.ensures.others;
     })
@@ -100,3 +102,26 @@ returns-clause-holds g c =
     let left = c.in_ok-lines.ensures.whole ∙ c.input.ensures.read ∙ c.in-Some.ensures.input in
     holds_from known p name (g.F.Files.input_bytes c.args.files.now) before mid after r (λ is. same ∙ c.in-Some.ensures.there is)
     (subst (λ (input : Option (List ℕ)). OnOk r (HoldsReached known p name input mid after)) left c.peer_to.ensures.holds)
+
+pub returns-in_default-clause-told : goal.returns-in_default-clause-told
+returns-in_default-clause-told g c =
+    let bytes = g.F.Files.bytes in
+    let t = c.args.out.now in
+    told_nothing g.F.Files.is_known (asked_by c.args.log.now c.args.asked.now) c.args.asked.now.store.now (g.F.Files.input_bytes c.args.files.now)
+    (bytes c.args.files.now) (bytes c.explain_trouble.new.files) t t (nothing_same t)
+
+pub returns-clause-told : goal.returns-clause-told
+returns-clause-told g c =
+    let bytes = g.F.Files.bytes in
+    let p = asked_by c.args.log.now c.args.asked.now in
+    let name = c.args.asked.now.store.now in
+    let before = bytes c.args.files.now in
+    let mid = bytes c.watch-watch.new.self in
+    let after = bytes c.peer_to.new.files in
+    let known = g.F.Files.is_known in
+    let t = c.args.out.now in
+    let u = c.peer_to.new.out in
+    let same = ap (λ (h : FilesHeld). h name) (c.watch-watch.ensures.kept ∙ c.input.ensures.kept) in
+    let left = c.in_ok-lines.ensures.whole ∙ c.input.ensures.read ∙ c.in-Some.ensures.input in
+    told_from known p name (g.F.Files.input_bytes c.args.files.now) before mid after t u (λ is. same ∙ c.in-Some.ensures.there is)
+    (subst (λ (input : Option (List ℕ)). KeepsTold known p name input mid after t u) left c.peer_to.ensures.told)

@@ -1,15 +1,14 @@
-use Rattle.std.proofs.Common.{[], ◌++◌, length, refl, ap, ◌∙◌}
+use Rattle.std.proofs.Common.{length, refl, ap, ◌∙◌}
 use Rattle.ledger_model.specs.Chain.{Chain}
-use Rattle.cli_lines.specs.Told.{PrintsPart}
-use Rattle.cli_lines.proofs.Answering.{answers_behind, begins_behind, begins_part}
-use Rattle.cli_lines.proofs.Printing.{on_err, part_first}
+use Rattle.cli_lines.proofs.Answering.{answers_behind}
 use Rattle.log_peer.specs.Peering.{held_by}
 use Rattle.cli_peer.specs.Opening.{ComesBehind, opened_text}
-use Rattle.cli_peer.specs.Peering.{DoesLine, EndsLine, LinesBegin, PeersLines}
+use Rattle.cli_peer.specs.Keeping.{TellsLines}
+use Rattle.cli_peer.specs.Peering.{DoesLine, EndsLine, PeersLines}
 use Rattle.cli_peer.specs.Running.{reached}
 use Rattle.cli_peer.specs.Setting.{peer_of}
-use Rattle.cli_peer.proofs.Filters.{none_begun, tells_behind}
-use Rattle.cli_peer.proofs.Keeping.{stores_none}
+use Rattle.cli_peer.proofs.Filters.{none_begun, start_behind, start_front, tells_behind}
+use Rattle.cli_peer.proofs.Keeping.{starts_old, starts_same, stores_none}
 use Rattle.cli_peer.proofs.peering.peer_behind.Goals as goal
 
 pub returns-clause-answers : goal.returns-clause-answers
@@ -24,29 +23,29 @@ returns-clause-answers g c =
     c.peer_lines.new.out c.peer_lines.result front (rw height at c.in_ok-print_opened.ensures.prints) (λ text lines. (text, lines, refl))
     c.peer_lines.ensures.answers
 
-pub returns-in_err-print_opened-clause-begins : goal.returns-in_err-print_opened-clause-begins
-returns-in_err-print_opened-clause-begins g c =
+pub returns-in_err-print_opened-clause-told : goal.returns-in_err-print_opened-clause-told
+returns-in_err-print_opened-clause-told g c =
+    let contents = g.D.Write.contents in
     let p = peer_of c.args.setting.now.answering in
-    let old = reached c.args.reader.now in
-    let chain = (held_by c.args.reader.now.peer).chain in
+    let reader = c.args.reader.now in
+    let chain = (held_by reader.peer).chain in
     let input = c.args.lines.now.left in
-    let front = opened_text c.args.cut (length chain) in
-    let t = c.args.out.now in
-    let u = c.print_opened.new.out in
-    let r = c.from_residual.result in
-    begins_part (ComesBehind chain c.args.cut (LinesBegin p old input)) t u r (front ++ []) ([], none_begun (DoesLine p) (EndsLine p) old input, refl)
-    (on_err r (PrintsPart t u (front ++ [])) (part_first t u front [] (rw (c.height-height.ensures.value ∙ ap (λ (s : Chain). length s) c.snapshot.ensures) at c.in_err-print_opened.ensures.part)))
+    start_front (opened_text c.args.cut (length chain)) (TellsLines contents p reader reader input) c.args.out.now c.print_opened.new.out
+    (rw (c.height-height.ensures.value ∙ ap (λ (s : Chain). length s) c.snapshot.ensures) at c.in_err-print_opened.ensures.part)
+    (reached reader, none_begun (DoesLine p) (EndsLine p) (reached reader) input, starts_same contents reader.peer reader.peer (λ holds. holds))
 
-pub returns-clause-begins : goal.returns-clause-begins
-returns-clause-begins g c =
+pub returns-clause-told : goal.returns-clause-told
+returns-clause-told g c =
+    let contents = g.D.Write.contents in
     let p = peer_of c.args.setting.now.answering in
-    let old = reached c.args.reader.now in
-    let chain = (held_by c.args.reader.now.peer).chain in
+    let old = c.args.reader.now in
+    let new = c.peer_lines.new.reader in
+    let chain = (held_by old.peer).chain in
     let input = c.args.lines.now.left in
-    let front = opened_text c.args.cut (length chain) in
-    begins_behind (LinesBegin p old input) (ComesBehind chain c.args.cut (LinesBegin p old input)) c.args.out.now c.print_opened.new.out
-    c.peer_lines.new.out c.peer_lines.result front [] (rw (c.height-height.ensures.value ∙ ap (λ (s : Chain). length s) c.snapshot.ensures) at c.in_ok-print_opened.ensures.prints)
-    ([], none_begun (DoesLine p) (EndsLine p) old input, refl) (λ text lines. (text, lines, refl)) c.peer_lines.ensures.begins
+    start_behind (opened_text c.args.cut (length chain)) (TellsLines contents p old new input) c.args.out.now c.print_opened.new.out c.peer_lines.new.out
+    (rw (c.height-height.ensures.value ∙ ap (λ (s : Chain). length s) c.snapshot.ensures) at c.in_ok-print_opened.ensures.prints)
+    (reached old, none_begun (DoesLine p) (EndsLine p) (reached old) input, starts_old contents old.peer new.peer c.peer_lines.result c.peer_lines.ensures.stores)
+    c.peer_lines.ensures.told
 
 pub returns-clause-tells : goal.returns-clause-tells
 returns-clause-tells g c =

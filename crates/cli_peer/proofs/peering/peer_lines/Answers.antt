@@ -2,9 +2,10 @@ use Rattle.std.proofs.Common.{◌∙◌, List, OnOk, Option, ap, subst}
 use Rattle.std.specs.Global.{Vec}
 use Rattle.std.specs.Prelude.{ℕ}
 use Rattle.ledger_model.specs.Chain.{Bytes}
-use Rattle.cli_lines.specs.Told.{Answers, Begins}
-use Rattle.cli_peer.specs.Keeping.{LeadTo}
-use Rattle.cli_peer.specs.Peering.{LinesBegin, PeersLines}
+use Rattle.cli_lines.specs.Told.{Answers}
+use Rattle.cli_peer.specs.Filters.{BeginsSo}
+use Rattle.cli_peer.specs.Keeping.{LeadTo, TellsLines}
+use Rattle.cli_peer.specs.Peering.{PeersLines}
 use Rattle.cli_peer.specs.Rounds.{left_behind}
 use Rattle.cli_peer.specs.Running.{reached}
 use Rattle.cli_peer.specs.Setting.{peer_of}
@@ -19,13 +20,13 @@ returns-clause-answers g c =
     subst (λ (i : Option Bytes). Answers (PeersLines p (reached c.args.reader.now) i) c.args.out.now c.do_lines.new.out c.do_lines.result) left
     c.do_lines.ensures.answers
 
-pub returns-clause-begins : goal.returns-clause-begins
-returns-clause-begins g c =
+pub returns-clause-told : goal.returns-clause-told
+returns-clause-told g c =
     let p = peer_of c.args.setting.now.answering in
     let input = c.args.lines.now.left in
     let left = ap (λ (ls : List (Vec ℕ)). left_behind ls input) c.new-round.ensures.lines ∙ left_none input in
-    subst (λ (i : Option Bytes). Begins (LinesBegin p (reached c.args.reader.now) i) c.args.out.now c.do_lines.new.out c.do_lines.result) left
-    c.do_lines.ensures.begins
+    subst (λ (i : Option Bytes). BeginsSo (TellsLines g.D.Write.contents p c.args.reader.now c.do_lines.new.reader i) c.args.out.now c.do_lines.new.out) left
+    c.do_lines.ensures.told
 
 pub returns-clause-leads : goal.returns-clause-leads
 returns-clause-leads g c =

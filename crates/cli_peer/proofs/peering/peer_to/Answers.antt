@@ -4,17 +4,19 @@ use Rattle.log_peer.specs.Holding.{HoldsRecords, KeepsRecords}
 use Rattle.log_peer.specs.Peering.{file_of, held_by}
 use Rattle.log_peer.specs.Refusals.{store_text}
 use Rattle.log_peer.proofs.Keeping.{keeps_on}
-use Rattle.cli_lines.specs.Told.{Answers, Begins}
+use Rattle.cli_lines.specs.Told.{Answers}
 use Rattle.cli_lines.proofs.Changes.{changes_from}
-use Rattle.cli_lines.proofs.Answering.{answers_by, begins_by}
-use Rattle.cli_peer.specs.Filters.{DoesOrEnds}
+use Rattle.cli_lines.proofs.Answering.{answers_by}
+use Rattle.cli_peer.specs.Filters.{BeginsSo, DoesOrEnds}
+use Rattle.cli_peer.specs.Keeping.{HoldsChain, StartsWith}
 use Rattle.cli_peer.specs.Opening.{ComesBehind, TellsUnopened}
-use Rattle.cli_peer.specs.Peering.{LinesBegin, Peers, PeersBegin, PeersLines, opened}
+use Rattle.cli_peer.specs.Peering.{LinesTo, Peers, PeersBegin, PeersLines, opened}
 use Rattle.cli_peer.specs.Logged.{Reached}
 use Rattle.cli_peer.specs.Running.{reached}
 use Rattle.cli_peer.specs.Setting.{peer_of}
-use Rattle.cli_peer.proofs.Filters.{begins_ended, ended_by}
-use Rattle.cli_peer.proofs.Keeping.{closed_holds, closed_keeps, held_then}
+use Rattle.cli_peer.specs.declared.peering.Reader.{Reader}
+use Rattle.cli_peer.proofs.Filters.{ended_by, start_ended}
+use Rattle.cli_peer.proofs.Keeping.{closed_holds, closed_keeps, closed_told, held_then, peer_begins, unopened_told}
 use Rattle.cli_peer.proofs.peering.peer_to.Goals as goal
 
 pub returns-in-Ok-clause-answers : goal.returns-in-Ok-clause-answers
@@ -46,22 +48,55 @@ returns-in-Err-clause-answers g c =
 
 pub returns-in-Ok-clause-begins : goal.returns-in-Ok-clause-begins
 returns-in-Ok-clause-begins g c =
+    let contents = g.F.Store.Write.contents in
     let p = peer_of c.args.setting.now.answering in
-    let chain = (held_by c.in-Ok.peer).chain in
-    let cut = c.in-Ok.cut in
-    let input = c.args.lines.now.left in
-    let t = c.args.out.now in
-    let u = c.peer_behind-ended.new.out in
-    let r = c.peer_behind-ended.result in
-    begins_by (ComesBehind chain cut (LinesBegin p (opened p chain) input)) (PeersBegin p (g.F.Store.Write.contents c.args.file) input) t u r
-    (λ text behind. inl (chain, cut, c.in-Ok.ensures.opened, c.in-Ok.ensures.lawful, behind))
-    (subst
-    (λ (log : Ordering). Begins (ComesBehind chain cut (LinesBegin p (record { held = record { log = log; chain = chain }; begun = false }) input)) t u r)
-    c.in-Ok.ensures.unread c.peer_behind-ended.ensures.begins)
+    let held = held_by c.in-Ok.peer in
+    let old : Reader g.row.F-Store.Denot = record { peer = c.in-Ok.peer; begun = false } in
+    let opens = ap (λ (log : Ordering). let r : Reached = record { held = record { log = log; chain = held.chain }; begun = false } in r) c.in-Ok.ensures.unread in
+    λ broken. peer_begins contents p c.args.lines.now.left (contents c.args.file) old c.peer_behind-ended.new.reader c.in-Ok.cut c.args.out.now
+    c.peer_behind-ended.new.out c.in-Ok.ensures.opened c.in-Ok.ensures.lawful opens c.peer_behind-ended.ensures.told
 
 pub returns-in-Err-clause-begins : goal.returns-in-Err-clause-begins
 returns-in-Err-clause-begins g c =
-    begins_ended (Unit {0}) _ c.args.out.now c.end-failure.new.out c.end-failure.result (store_text c.in-Err.unopened.refusal) c.end-failure.ensures.ends
+    let p = peer_of c.args.setting.now.answering in
+    let held = g.F.Store.Write.contents c.args.file in
+    let cause = c.in-Err.unopened.refusal in
+    λ broken. start_ended (PeersBegin p held c.args.lines.now.left) c.args.out.now c.end-failure.new.out c.end-failure.result (store_text cause)
+    c.end-failure.ensures.ends (inr (cause, c.in-Err.ensures.refused, refl))
+
+-- ---- what was told
+
+pub returns-in-Ok-clause-told : goal.returns-in-Ok-clause-told
+returns-in-Ok-clause-told g c =
+    let bytes = g.F.Files.bytes in
+    let contents = g.F.Store.Write.contents in
+    let p = peer_of c.args.setting.now.answering in
+    let name = c.args.setting.now.store.now in
+    let input = c.args.lines.now.left in
+    let old = c.in-Ok.peer in
+    let new = c.peer_behind-ended.new.reader in
+    let chain = (held_by old).chain in
+    let t = c.args.out.now in
+    let u = c.peer_behind-ended.new.out in
+    let from : Reached = record { held = held_by old; begun = false } in
+    let opens = ap (λ (log : Ordering). let r : Reached = record { held = record { log = log; chain = chain }; begun = false } in r) c.in-Ok.ensures.unread in
+    closed_told g.F.Files.is_known name (bytes c.args.files.now) (bytes c.peer_behind-ended.new.files) (bytes c.close_store.new.self) (contents c.args.file)
+    (contents c.into_file.result) c.requires.there c.peer_behind-ended.ensures.kept c.close_store.ensures.stored p input chain c.in-Ok.cut from
+    (HoldsChain contents old) t u c.in-Ok.ensures.opened c.in-Ok.ensures.lawful opens c.in-Ok.ensures.holds
+    (subst (λ (d : g.row.F-Store.Denot). BeginsSo (ComesBehind chain c.in-Ok.cut (λ rest. (last : Reached) × LinesTo p from input rest last
+    × (HoldsChain contents old → StartsWith (contents d) last.held.chain))) t u) (sym c.into_file.ensures) c.peer_behind-ended.ensures.told)
+
+pub returns-in-Err-clause-told : goal.returns-in-Err-clause-told
+returns-in-Err-clause-told g c =
+    let bytes = g.F.Files.bytes in
+    let p = peer_of c.args.setting.now.answering in
+    let held = g.F.Store.Write.contents c.args.file in
+    let cause = c.in-Err.unopened.refusal in
+    let t = c.args.out.now in
+    let u = c.end-failure.new.out in
+    unopened_told g.F.Files.is_known p c.args.setting.now.store.now c.args.lines.now.left held (bytes c.args.files.now) (bytes c.close_store-in-Err.new.self) t u
+    c.requires.there (start_ended (TellsUnopened p.log.genesis.rules.value held) t u c.end-failure.result (store_text cause) c.end-failure.ensures.ends
+    (cause, c.in-Err.ensures.refused, refl))
 
 pub returns-in-Ok-clause-keeps : goal.returns-in-Ok-clause-keeps
 returns-in-Ok-clause-keeps g c =

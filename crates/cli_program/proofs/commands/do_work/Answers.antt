@@ -67,7 +67,7 @@ returns-in-Peer-clause-works g c =
     let log = c.args.subject.log.now in
     subst (λ (w : Work). Works log w k c.args.out.now r.new.out r.result) (sym c.in-Peer.is)
     (subst (λ (org : Option (List ℕ)). Works log (work.Peer org c.in-Peer.store) k c.args.out.now r.new.out r.result) c.as_ref.ensures.value
-    ((r.ensures.answers, r.ensures.begins), r.ensures.holds))
+    ((r.ensures.answers, r.ensures.begins), r.ensures.holds, r.ensures.told))
 
 pub returns-in-Peer-clause-files : goal.returns-in-Peer-clause-files
 returns-in-Peer-clause-files g c =
