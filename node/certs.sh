@@ -17,9 +17,16 @@
 # takes the place of the old one, with a new key. What etcd is asked by has no common name, which etcd may take for a user.
 set -eu
 umask 077
-# How openssl prints that a certificate is an authority's, which makes no other one.
-CONSTRAINTS="X509v3 Basic Constraints: critical
-    CA:TRUE, pathlen:0"
+# The lines by which openssl prints the extensions of an authority that makes no other one, sorted, each key's digest as ID.
+EXTENSIONS="CA:TRUE, pathlen:0
+Certificate Sign, CRL Sign
+ID
+ID
+X509v3 Authority Key Identifier:
+X509v3 Basic Constraints: critical
+X509v3 Key Usage: critical
+X509v3 Subject Key Identifier:
+X509v3 extensions:"
 
 complain() {
     echo "regtuma-certs: $*" >&2
@@ -105,6 +112,23 @@ make_authorities() { # DIR ORG: those that are not there yet
     test -n "$made" || complain "$1 has its authorities: their keys are not written over"
 }
 
+is_as_made() { # SUBJECT: whether $certificate has what make_authorities makes, and nothing else
+    # Whole lines are compared: of a name of several parts, or a long number, another program may read another part. Etcd does not begin
+    # where its own reader refuses one of the certificates that it trusts, as by a key that is no point of the curve.
+    echo "$certificate" > "$work/authority"
+    names=$(openssl x509 -in "$work/authority" -noout -subject -issuer -nameopt RFC2253,-dn_rev,show_type 2> /dev/null)
+    test "$(echo "$names" | sed 's/=PRINTABLESTRING:/=UTF8STRING:/g')" = "subject=$1
+issuer=$1" || return 1
+    extensions=$(openssl x509 -in "$work/authority" -noout -text -certopt \
+        no_header,no_version,no_serial,no_signame,no_validity,no_subject,no_issuer,no_pubkey,no_sigdump,no_aux 2> /dev/null |
+        sed -E 's/^ *(keyid:)?//; s/ *$//; s/^([0-9A-F]{2}:){19}[0-9A-F]{2}$/ID/' | LC_ALL=C sort)
+    test "$extensions" = "$EXTENSIONS" || return 1
+    openssl x509 -in "$work/authority" -noout -pubkey > "$work/public" 2> /dev/null || return 1
+    openssl pkey -pubin -in "$work/public" -pubcheck -noout -text 2> /dev/null | grep -q -x 'ASN1 OID: prime256v1' || return 1
+    openssl pkey -pubin -in "$work/public" -pubcheck -noout > "$work/said" 2>&1 || return 1
+    openssl verify -no_check_time -check_ss_sig -CAfile "$work/authority" "$work/authority" > "$work/said" 2>&1
+}
+
 read_authority() { # FOLDER NAME: the certificate of one organisation's authority, exactly as make_authorities makes it
     # What another program reads is $certificate, as openssl wrote it anew: a file may have more than the certificate.
     file="$1/$2.pem"
@@ -115,10 +139,7 @@ read_authority() { # FOLDER NAME: the certificate of one organisation's authorit
     owner=${owner%%,*}
     case $owner in "" | *[!A-Za-z0-9_]*) complain "$file has to name one organisation" ;; esac
     check_organisation "$owner"
-    # Whole lines are compared: of a name of several parts, or a long number, another program may read another part.
-    constraints=$(echo "$certificate" | openssl x509 -noout -ext basicConstraints 2> /dev/null)
-    test "$subject" = "subject=$(subject_of "$2" "$owner")" && test "$constraints" = "$CONSTRAINTS" ||
-        complain "$file is no authority as regtuma-certs ca makes it"
+    is_as_made "$(subject_of "$2" "$owner" | sed 's/=/=UTF8STRING:/g')" || complain "$file is no authority as regtuma-certs ca makes it"
     # Another kind may be passed over by one program, and taken by the next.
     ! grep -e '-----BEGIN' "$file" | grep -v -q -x -e '-----BEGIN CERTIFICATE-----' || complain "$file holds more than certificates"
 }
