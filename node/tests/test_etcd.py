@@ -191,6 +191,15 @@ class Failures(Case):
         self.assertEqual(await self.watched(await self.log(first, second), 2), [b"5.0 a\n", b"6.0 b\n"])
         self.assertEqual(second.asked[0][1]["create_request"]["start_revision"], "5")
 
+    async def test_a_door_that_lets_in_no_watch_is_left_for_a_while(self):
+        """However well its member is: each way back would begin one more watch at another door, which has as few."""
+        first, second = Node((429, {"error": "too many"}), *[(200, {})] * 4), Node([told(event(5, "a"))], *[(200, {})] * 2)
+        log = await self.log(first, second)
+        self.assertEqual(await self.watched(log, 1), [b"5.0 a\n"])
+        self.assertEqual((await log.is_led(), log.turn, len(first.asked)), (True, 1, 1))
+        log.back_at = 0.0
+        self.assertEqual((await log.is_led(), log.turn), (True, 0))
+
     async def test_a_watch_may_end_inside_a_revision(self):
         first = Node([told(event(5, "a")), told(event(6, "b\nc")), told(event(6, "d"))])
         second = Node([told(event(6, "b\nc"), event(6, "d"), event(6, "e"), event(7, "f"))])
