@@ -180,9 +180,10 @@ class Operating:
         before = (self.maker.root / "var/lib/regtuma/chain.store").read_bytes()
         (self.carrier.root / "var/lib/regtuma/chain.store").unlink()
         self.begin_etcd()
-        self.maker.type(self.report, *self.block("systemctl stop regtuma-node\nregtuma-log"))
+        self.maker.type(self.report, *self.block("systemctl stop regtuma-node regtuma-door"))
         for machine in (self.carrier, self.shop):
             machine.run("systemctl", "start", "regtuma-node")
+        self.maker.type(self.report, *self.block("systemctl start regtuma-door regtuma-node"))
         self.well()
 
         def stores() -> set[bytes]:
