@@ -14,6 +14,7 @@ ANYWHERE = {
 REASONS = {
     ("docs/OPERATIONS.md", "tar -C /"): "changes the machine; the part install unpacks the same tarball",
     ("docs/OPERATIONS.md", "etcd has no user"): "is printed, by regtuma-log leave; the demo compares it",
+    ("docs/OPERATIONS.md", "etcdctl user passwd"): "sets a password anew, in the words by which the part operations types `user add`",
     ("bench/README.md", "bench/run"): SMALL,
     ("bench/README.md", "bench/build.sh"): "makes what bench/run measures",
     ("bench/README.md", "bench/untuned/build.sh"): "makes what bench/run measures",
