@@ -1,4 +1,5 @@
 use Rattle.std.proofs.Common.{◌≡◌, ◌≤◌, ◌++◌, List, [], ap, length, subst, sym, ◌∙◌}
+use Rattle.fab_types.specs.Editions.{last_block}
 use Rattle.fab_types.specs.declared.block.Block.{Block}
 use Rattle.batch_cutter.specs.Division.{message}
 use Rattle.orderer.specs.Blocks.{AreLinked}
@@ -16,4 +17,4 @@ invariant_of-self-in-Ok-accept c =
     c.keep_each.ensures.blocks ∙ ap (λ (bs : List Block). bs ++ blocks_made made) before ∙ sym c.in-Ok-accept.ensures.blocks in
     let linked = takes_linked old new (message c.args.given) (reports_made made) c.in-Ok-accept.ensures.taken
     (subst (AreLinked []) c.self.invariant.0 c.self.invariant.2) in
-    (is, subst (λ (bs : List Block). length bs ≤ 65535) (sym is) c.in-Ok-accept.ensures.numbers, subst (AreLinked []) (sym is) linked)
+    (is, subst (λ (bs : List Block). length bs ≤ last_block new.edition) (sym is) c.in-Ok-accept.ensures.numbers, subst (AreLinked []) (sym is) linked)
