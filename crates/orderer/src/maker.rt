@@ -117,7 +117,7 @@ impl BlockMaker {
         ensures two { IfOk result (λ made. length made.items ≤ 2) }
         ensures size { OnOk result (envelope_size given ≤ self.old.limits.absolute) }
         ensures numbers { OnOk result
-            (length self.new.chain ≤ last_block self.new.edition) }
+            (length self.new.chain ≤ last_block self.old.edition) }
         ensures refused { IfErr result
             (λ refusal. IsRefused refusal.cause self.old (message given)) }
         ensures handed_back { IfErr result (λ refusal. refusal.envelope ≡ Some given) }
@@ -180,7 +180,7 @@ impl BlockMaker {
             self.new.chain ≡ self.old.chain ++ blocks_made (option_to_list made)) }
         ensures own { IfOk result (λ made. AreOwn (option_to_list made)) }
         ensures numbers { OnOk result
-            (length self.new.chain ≤ last_block self.new.edition) }
+            (length self.new.chain ≤ last_block self.old.edition) }
         ensures refused { IfErr result (λ refusal. IsRefused refusal.cause self.old timeout) }
         ensures handed_back { IfErr result (λ refusal. refusal.envelope ≡ None) }
         ensures unchanged { OnErr result (self.new ≡ self.old) }

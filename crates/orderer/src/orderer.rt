@@ -111,7 +111,7 @@ impl Orderer {
             (λ reports. Takes self.old (message given) reports.items self.new) }
         ensures size { OnOk result (envelope_size given ≤ self.old.limits.absolute) }
         ensures numbers { OnOk result
-            (length self.new.chain ≤ last_block self.new.edition) }
+            (length self.new.chain ≤ last_block self.old.edition) }
         ensures refused { IfErr result
             (λ refusal. IsRefused refusal.cause self.old (message given)) }
         ensures handed_back { IfErr result (λ refusal. refusal.envelope ≡ Some given) }
@@ -136,7 +136,7 @@ impl Orderer {
         ensures taken { IfOk result
             (λ report. Takes self.old timeout (option_to_list report) self.new) }
         ensures numbers { OnOk result
-            (length self.new.chain ≤ last_block self.new.edition) }
+            (length self.new.chain ≤ last_block self.old.edition) }
         ensures refused { IfErr result (λ refusal. IsRefused refusal.cause self.old timeout) }
         ensures handed_back { IfErr result (λ refusal. refusal.envelope ≡ None) }
         ensures unchanged { OnErr result (self.new ≡ self.old) }
