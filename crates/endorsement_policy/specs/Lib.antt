@@ -1,3 +1,4 @@
+pub mod Editions
 pub mod Faults
 pub mod Installed
 pub mod Listed

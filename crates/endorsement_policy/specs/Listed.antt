@@ -5,11 +5,13 @@ use Rattle.policy_language.specs.GoodSets.{Name, needs_someone}
 use Rattle.policy_language.specs.declared.policy.Policy.{Policy}
 use Rattle.org_keys.specs.declared.organisation.Organisation.{Organisation}
 use Rattle.endorsement_policy.specs.Installed.{Installed}
+use Rattle.endorsement_policy.specs.declared.edition.Edition.{Edition}
 use Rattle.endorsement_policy.specs.declared.rules.ChaincodePolicy.{ChaincodePolicy}
 
--- the organisations with their keys, the policies of chaincodes by the genesis, the policy of upgrades and amendments, and what every peer has
--- installed
+-- the edition of the rules, the organisations with their keys, the policies of chaincodes by the genesis, the policy of upgrades and amendments, and
+-- what every peer has installed
 pub record Listed : Type 0 where
+  pub edition : Edition
   pub orgs : List Organisation
   pub policies : List ChaincodePolicy
   pub upgrade : Policy

@@ -105,7 +105,7 @@ KeysDiffer orgs =
 
 -- what is listed, with those who stand in the place of the genesis' organisations and its policy of upgrades
 abbrev pub with_standing : Listed → Standing → Listed
-with_standing r s = record { orgs = s.orgs; policies = r.policies; upgrade = s.upgrade; installed = r.installed }
+with_standing r s = record { edition = r.edition; orgs = s.orgs; policies = r.policies; upgrade = s.upgrade; installed = r.installed }
 
 abbrev pub listed_in : Listed → Plain → Listed
 listed_in r m = with_standing r (standing_in r m)

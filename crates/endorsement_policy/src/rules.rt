@@ -5,6 +5,7 @@ ghost use Rattle.std.specs.List.{find};
 ghost use Rattle.endorsement_policy.specs.Listed.{do_need_someone, is_org, is_policy_of};
 ghost use Rattle.policy_language.specs.GoodSets.{needs_someone};
 
+use crate::edition::Edition;
 use crate::evaluate::is_satisfied_by;
 use crate::installed::Installed;
 use crate::organisations::find_organisation;
@@ -20,11 +21,13 @@ pub struct ChaincodePolicy {
     pub policy: Policy,
 }
 
-/// The organisations with their keys, the policy of each chaincode by the genesis, the policy of
-/// upgrades and amendments, and what every peer has installed, with the organisations among it. Of
-/// several of one name the first counts. Each policy needs at least one endorsement.
+/// The edition of the ledger's rules, the organisations with their keys, the policy of each chaincode
+/// by the genesis, the policy of upgrades and amendments, and what every peer has installed, with the
+/// organisations among it. Of several of one name the first counts. Each policy needs at least one
+/// endorsement.
 #[derive(Drop)]
 pub struct Rules {
+    edition: Edition,
     policies: Vec<ChaincodePolicy>,
     upgrade: Policy,
     installed: Installed,
@@ -42,6 +45,7 @@ impl Model for Rules {
     ghost coded = { Prim.hlevel (codes, policies_code) };
 
     ghost view = { λ r. record {
+      edition = r.edition;
       orgs = r.installed.orgs;
       policies = r.policies.items;
       upgrade = r.upgrade;
@@ -67,9 +71,10 @@ fn do_need_someone(policies: &[ChaincodePolicy]) -> bool
 }
 
 impl Rules {
-    /// The rules of these policies and organisations. None where some policy is satisfied without
+    /// The rules of this edition, and of these policies and organisations. None where some policy is satisfied without
     /// any endorsement, as one with the threshold 0 is.
     pub fn new(
+        edition: Edition,
         policies: Vec<ChaincodePolicy>,
         upgrade: Policy,
         installed: Installed,
@@ -77,6 +82,7 @@ impl Rules {
         ensures accepted { IsSome result ↔
             ((do_need_someone policies.items ≡ true) × (needs_someone upgrade ≡ true)) }
         ensures value { IfSome result (λ r. r ≡ record {
+          edition = edition;
           orgs = installed.orgs;
           policies = policies.items;
           upgrade = upgrade;
@@ -90,10 +96,18 @@ impl Rules {
             return None;
         }
         Some(Rules {
+            edition,
             policies,
             upgrade,
             installed,
         })
+    }
+
+    /// The edition of the ledger's rules.
+    pub fn edition(&self) -> Edition
+        ensures { result ≡ self.now.edition }
+    {
+        self.edition
     }
 
     /// The organisations, which are those that are installed.

@@ -2,7 +2,7 @@
 use Rattle.std.specs.Prelude.{◌≡◌}
 use Rattle.serde_json.specs.Data.{boolean}
 use Rattle.json_genesis.specs.Lists.{IsListOf, IsNumber}
-use Rattle.json_genesis.specs.Spelling.{AreOrganisations, IsPeer, IsPolicy, Parts, names_of}
+use Rattle.json_genesis.specs.Spelling.{AreOrganisations, IsEdition, IsPeer, IsPolicy, Parts, names_of}
 use Rattle.json_genesis.specs.declared.read.Setting.{Setting}
 
 pub record IsSetting (p : Parts) (s : Setting) : Type 0 where
@@ -12,6 +12,7 @@ pub record IsSetting (p : Parts) (s : Setting) : Type 0 where
   pub preferred : IsNumber 1 524288 p.preferred s.preferred
   pub absolute : IsNumber 1 524288 p.absolute s.absolute
   pub reorder : p.reorder ≡ boolean s.reorder
+  pub edition : IsEdition p.rules s.edition
   pub organisations : AreOrganisations p.orgs s.organisations.items
   pub names : s.orgs.items ≡ names_of s.organisations.items
   pub peers : IsListOf (IsPeer s.orgs.items) 1 8 p.peers s.peers.items

@@ -1,7 +1,7 @@
 -- What a genesis file spells, over the data that it is as JSON. A JSON object has each of its members
 -- once, in the order of their names; so an object with exactly some fields is written out in that order.
-use Rattle.std.specs.Prelude.{◌≡◌, ◌&&◌, ℕ, Bool, true, not, List, [], ◌∷◌, ◌++◌, map, length, codes, Some, Ok}
-use Rattle.serde_json.specs.Data.{Data, object, member, no_members, string, boolean, number, unsigned}
+use Rattle.std.specs.Prelude.{◌≡◌, ◌&&◌, ℕ, Bool, true, not, List, [], ◌∷◌, ◌++◌, map, length, codes, Option, Some, None, Ok}
+use Rattle.serde_json.specs.Data.{Data, Members, object, member, no_members, string, boolean, number, unsigned}
 use Rattle.serde_json.specs.Read.{read}
 use Rattle.json_fields.specs.NamedKeys.{public_object}
 use Rattle.hex.specs.Hex.{decode_of}
@@ -19,6 +19,9 @@ use Rattle.org_keys.specs.TagKeys.{IsTagKey}
 use Rattle.org_keys.specs.declared.organisation.OrgKey.{OrgKey}
 use Rattle.org_keys.specs.declared.organisation.OrgKey.TheVariants as key
 use Rattle.org_keys.specs.declared.organisation.Organisation.{Organisation}
+use Rattle.endorsement_policy.specs.Editions.{edition_number}
+use Rattle.endorsement_policy.specs.declared.edition.Edition.{Edition}
+use Rattle.endorsement_policy.specs.declared.edition.Edition.TheVariants.{First}
 use Rattle.endorsement_policy.specs.declared.installed.ModuleId.{ModuleId}
 use Rattle.policy_language.specs.declared.policy.Policy.{Policy}
 use Rattle.endorsement_policy.specs.declared.rules.ChaincodePolicy.{ChaincodePolicy}
@@ -144,7 +147,12 @@ IsBookOf orgs held chaincodes modules book policies =
     × IsListOf (IsDefinition (names_of orgs)) 1 16 chaincodes cs × IsListOf IsInstalled 0 16 modules ms
     × IsBook book × (book ≡ book_of orgs held cs ms) × (policies ≡ policies_of cs)
 
--- what the fields of the file hold
+-- 1 or 2: the number of this edition. The first edition where there is no number
+abbrev pub IsEdition : Option Data → Edition → Type 0
+IsEdition None edition = edition ≡ First
+IsEdition (Some d) edition = d ≡ number (unsigned (edition_number edition))
+
+-- what the fields of the file hold; "rules" may be left out
 pub record Parts : Type 0 where
   pub absolute : Data
   pub chaincodes : Data
@@ -155,8 +163,14 @@ pub record Parts : Type 0 where
   pub preferred : Data
   pub queue : Data
   pub reorder : Data
+  pub rules : Option Data
   pub seats : Data
   pub upgrade : Data
+
+-- these members, with the field "rules" before them where it is not left out
+abbrev pub with_rules : Option Data → Members → Members
+with_rules None ms = ms
+with_rules (Some d) ms = member (codes "rules") d ms
 
 -- the object that has exactly these fields
 abbrev pub object_of : Parts → Data
@@ -164,7 +178,7 @@ object_of p =
     object (member (codes "absolute") p.absolute (member (codes "chaincodes") p.chaincodes (member (codes "count") p.count
     (member (codes "modules") p.modules (member (codes "orgs") p.orgs (member (codes "peers") p.peers
     (member (codes "preferred") p.preferred (member (codes "queue") p.queue (member (codes "reorder") p.reorder
-    (member (codes "seats") p.seats (member (codes "upgrade") p.upgrade no_members)))))))))))
+    (with_rules p.rules (member (codes "seats") p.seats (member (codes "upgrade") p.upgrade no_members))))))))))))
 
 -- the genesis that the fields spell, with these modules and no seed at hand
 pub record IsGenesis (held : List Held) (p : Parts) (g : Genesis) : Type 0 where
@@ -174,6 +188,7 @@ pub record IsGenesis (held : List Held) (p : Parts) (g : Genesis) : Type 0 where
   pub preferred : IsNumber 1 524288 p.preferred g.preferred
   pub absolute : IsNumber 1 524288 p.absolute g.absolute
   pub reorder : p.reorder ≡ boolean g.reorder
+  pub edition : IsEdition p.rules g.rules.value.edition
   pub organisations : AreOrganisations p.orgs g.rules.value.orgs
   pub peers : IsListOf (IsPeer (names_of g.rules.value.orgs)) 1 8 p.peers g.peers.items
   pub book : IsBookOf g.rules.value.orgs held p.chaincodes p.modules g.book.value g.rules.value.policies

@@ -14,12 +14,12 @@ use crate::book::book;
 use crate::chaincodes::upgrade_policy;
 use crate::fields::{GenesisFields, genesis_fields};
 use crate::lists::read_list;
-use crate::numbers::{size_within, truth};
+use crate::numbers::{edition, size_within, truth};
 use crate::organisations::organisations;
 use crate::peers::PeerReader;
 use crate::refusal::GenesisRefusal;
 use chaincode_book::Held;
-use endorsement_policy::Rules;
+use endorsement_policy::{Edition, Rules};
 use fab_types::OrgName;
 use fab_types::limits::{MOST_DATA_BYTES, MOST_PEERS, MOST_QUEUED, MOST_SEATS, MOST_TRANSACTIONS};
 use ledger_setting::Genesis;
@@ -99,6 +99,7 @@ struct Setting {
     preferred: usize,
     absolute: usize,
     reorder: bool,
+    edition: Edition,
     organisations: Vec<Organisation>,
     /// The names of the organisations.
     orgs: Vec<OrgName>,
@@ -118,6 +119,7 @@ fn setting_of(alloc: Global, fields: &GenesisFields<'_>) -> Result<Setting, Gene
     let preferred = size_within(fields.preferred, 1, MOST_DATA_BYTES)?;
     let absolute = size_within(fields.absolute, 1, MOST_DATA_BYTES)?;
     let reorder = truth(fields.reorder)?;
+    let edition = edition(fields.rules)?;
     let (organisations, orgs) = organisations(alloc, fields.orgs)?;
     let reader = PeerReader { orgs: &orgs };
     let peers = read_list(alloc, &reader, fields.peers, 1, MOST_PEERS)?;
@@ -129,6 +131,7 @@ fn setting_of(alloc: Global, fields: &GenesisFields<'_>) -> Result<Setting, Gene
         preferred,
         absolute,
         reorder,
+        edition,
         organisations,
         orgs,
         peers,
@@ -154,6 +157,7 @@ fn genesis_with(
         preferred,
         absolute,
         reorder,
+        edition,
         organisations,
         orgs,
         peers,
@@ -168,7 +172,7 @@ fn genesis_with(
         held,
     )?;
     let installed = book.installed().clone()?;
-    let Some(rules) = Rules::new(policies, upgrade, installed) else {
+    let Some(rules) = Rules::new(edition, policies, upgrade, installed) else {
         return Err(GenesisRefusal::Policy);
     };
     Ok(Genesis {

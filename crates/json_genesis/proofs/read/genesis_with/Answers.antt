@@ -41,6 +41,7 @@ returns-clause-ok c =
       preferred = setting.preferred;
       absolute = setting.absolute;
       reorder = setting.reorder;
+      edition = rw rules setting.edition;
       organisations = rw (rules, orgs) setting.organisations;
       peers = rw (rules, orgs, names) setting.peers;
       book = rw (c.in_ok-new.ensures.ok, rules, orgs) c.in_ok-book.ensures.ok;

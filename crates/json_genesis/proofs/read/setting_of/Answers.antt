@@ -42,6 +42,12 @@ returns-in_err-reorder-clause-refused c =
     let none = c.in_err-reorder.ensures.refused in
     rw (p.1, p.2) (λ held. (none.0, λ real g spelled. none.1 real g.reorder spelled.reorder))
 
+pub returns-in_err-edition-clause-refused : goal.returns-in_err-edition-clause-refused
+returns-in_err-edition-clause-refused c =
+    let p = err_from_is_err_and c.from_residual-in_err-edition.result c.from_residual-in_err-edition.ensures.1 in
+    let none = c.in_err-edition.ensures.refused in
+    rw (p.1, p.2) (λ held. (none.0, λ real g spelled. none.1 real g.rules.value.edition spelled.edition))
+
 pub returns-in_err-organisations-clause-refused : goal.returns-in_err-organisations-clause-refused
 returns-in_err-organisations-clause-refused c =
     let p = err_from_is_err_and c.from_residual-in_err-organisations.result c.from_residual-in_err-organisations.ensures.1 in
@@ -74,6 +80,7 @@ returns-clause-ok c = record {
   preferred = c.in_ok-preferred.ensures.ok;
   absolute = c.in_ok-absolute.ensures.ok;
   reorder = c.in_ok-reorder.ensures.ok;
+  edition = c.in_ok-edition.ensures.ok;
   organisations = c.in_ok-organisations.ensures.ok.0;
   names = c.in_ok-organisations.ensures.ok.1;
   peers = rw c.deref.ensures.value at c.in_ok-peers.ensures.ok;
