@@ -1,4 +1,3 @@
-pub mod Editions
 pub mod Faults
 pub mod Installed
 pub mod Listed

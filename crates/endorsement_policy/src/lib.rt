@@ -18,7 +18,6 @@
 
 mod asking;
 mod check;
-mod edition;
 mod evaluate;
 mod fault;
 mod installed;
@@ -37,7 +36,6 @@ mod workers;
 
 pub use asking::satisfies;
 pub use check::{check_plain, check_with_right_orgs, is_endorsed};
-pub use edition::Edition;
 pub use evaluate::satisfied;
 pub use fault::DefinitionFault;
 pub use installed::{Installed, ModuleId, ModulePlace, Usable};

@@ -5,11 +5,10 @@ ghost use Rattle.std.specs.List.{find};
 ghost use Rattle.endorsement_policy.specs.Listed.{do_need_someone, is_org, is_policy_of};
 ghost use Rattle.policy_language.specs.GoodSets.{needs_someone};
 
-use crate::edition::Edition;
 use crate::evaluate::is_satisfied_by;
 use crate::installed::Installed;
 use crate::organisations::find_organisation;
-use fab_types::{Name, OrgName};
+use fab_types::{Edition, Name, OrgName};
 use org_keys::Organisation;
 use policy_language::Policy;
 use std::marker::Model;
@@ -21,10 +20,10 @@ pub struct ChaincodePolicy {
     pub policy: Policy,
 }
 
-/// The edition of the ledger's rules, the organisations with their keys, the policy of each chaincode
-/// by the genesis, the policy of upgrades and amendments, and what every peer has installed, with the
-/// organisations among it. Of several of one name the first counts. Each policy needs at least one
-/// endorsement.
+/// The edition of the ledger's rules, the organisations with their keys, the policy of each
+/// chaincode by the genesis, the policy of upgrades and amendments, and what every peer has
+/// installed, with the organisations among it. Of several of one name the first counts. Each policy
+/// needs at least one endorsement.
 #[derive(Drop)]
 pub struct Rules {
     edition: Edition,
@@ -71,8 +70,8 @@ fn do_need_someone(policies: &[ChaincodePolicy]) -> bool
 }
 
 impl Rules {
-    /// The rules of this edition, and of these policies and organisations. None where some policy is satisfied without
-    /// any endorsement, as one with the threshold 0 is.
+    /// The rules of this edition, of these policies and organisations. None where some policy is
+    /// satisfied without any endorsement, as one with the threshold 0 is.
     pub fn new(
         edition: Edition,
         policies: Vec<ChaincodePolicy>,

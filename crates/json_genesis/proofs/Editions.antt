@@ -1,9 +1,9 @@
 -- The edition of the rules that a field names, which may be left out.
 use Rattle.std.proofs.Common.{◌≡◌, ◌≢◌, ℕ, List, [], ◌∷◌, Option, Some, None, codes, bytes_eq, true≢false, refl, sym, ap, ◌∙◌, arith}
 use Rattle.serde_json.specs.Data.{Data, Members, no_members, member}
-use Rattle.endorsement_policy.specs.Editions.{edition_number}
-use Rattle.endorsement_policy.specs.declared.edition.Edition.{Edition}
-use Rattle.endorsement_policy.specs.declared.edition.Edition.TheVariants.{First, Second}
+use Rattle.fab_types.specs.Editions.{edition_number}
+use Rattle.fab_types.specs.declared.edition.Edition.{Edition}
+use Rattle.fab_types.specs.declared.edition.Edition.TheVariants.{First, Second}
 use Rattle.json_genesis.specs.declared.refusal.GenesisRefusal.{GenesisRefusal}
 use Rattle.json_genesis.specs.Lists.{IsNumber, IsWithin}
 use Rattle.json_genesis.specs.Refused.{NoneIs}

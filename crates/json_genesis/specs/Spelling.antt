@@ -19,9 +19,9 @@ use Rattle.org_keys.specs.TagKeys.{IsTagKey}
 use Rattle.org_keys.specs.declared.organisation.OrgKey.{OrgKey}
 use Rattle.org_keys.specs.declared.organisation.OrgKey.TheVariants as key
 use Rattle.org_keys.specs.declared.organisation.Organisation.{Organisation}
-use Rattle.endorsement_policy.specs.Editions.{edition_number}
-use Rattle.endorsement_policy.specs.declared.edition.Edition.{Edition}
-use Rattle.endorsement_policy.specs.declared.edition.Edition.TheVariants.{First}
+use Rattle.fab_types.specs.Editions.{edition_number}
+use Rattle.fab_types.specs.declared.edition.Edition.{Edition}
+use Rattle.fab_types.specs.declared.edition.Edition.TheVariants.{First}
 use Rattle.endorsement_policy.specs.declared.installed.ModuleId.{ModuleId}
 use Rattle.policy_language.specs.declared.policy.Policy.{Policy}
 use Rattle.endorsement_policy.specs.declared.rules.ChaincodePolicy.{ChaincodePolicy}

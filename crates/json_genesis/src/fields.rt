@@ -27,8 +27,8 @@ pub(crate) struct GenesisFields<'a> {
     pub upgrade: &'a Value,
 }
 
-/// The fields of the file, of which `rules` alone may be left out. None where another is missing, or
-/// one is left over.
+/// The fields of the file, of which `rules` alone may be left out. None where another is missing,
+/// or one is left over.
 pub(crate) fn genesis_fields(value: &Value) -> Option<GenesisFields<'_>>
     ensures { MatchOption result ((p : Parts) → view value.now ≢ object_of p)
         (λ f. view value.now ≡ object_of (parts_of f)) }

@@ -8,7 +8,7 @@ ghost use Rattle.json_genesis.specs.Refused.{NoneIs};
 ghost use Rattle.json_genesis.specs.Spelling.{IsEdition, IsHex, IsProfile};
 
 use crate::refusal::GenesisRefusal;
-use endorsement_policy::Edition;
+use fab_types::Edition;
 use hex::FromHexError;
 use serde_json::Value;
 use std::alloc::Global;
@@ -51,8 +51,8 @@ pub(crate) fn profile(value: &Value) -> Result<Profile, GenesisRefusal>
     Profile::of_number(number as u8).ok_or(GenesisRefusal::Range)
 }
 
-/// The edition of the rules that a field names, whose number is read as `within` reads it. The first
-/// edition where the field is left out.
+/// The edition of the rules that a field names, whose number is read as `within` reads it. The
+/// first edition where the field is left out.
 pub(crate) fn edition(value: Option<&Value>) -> Result<Edition, GenesisRefusal>
     ensures ok { IfOk result (λ e. IsEdition (option_map (λ d. view d.now) value.entry) e) }
     ensures refused { IfErr result
