@@ -53,7 +53,7 @@ fn check_next(snapshot: &Snapshot, block: &Block) -> Result<(), CommitRefusal>
 ///
 /// These are tested in turn, and the first that stands refuses the block:
 ///
-/// - `AtEnd` (604): there are 65,535 blocks.
+/// - `AtEnd` (604): there are 4,000,000,000 blocks.
 /// - `Number` (601): its number is not the next one.
 /// - `PreviousHash` (602): it does not name the hash of the last header, or 32 zero bytes as block
 ///   1.

@@ -144,5 +144,5 @@ pub older_run : (id : Proposal → Bytes) (endorsed : List Placed → Envelope �
     IsRun r orgs seats limits reorder events replies w refused → reorder ≡ true → (peer : ℕ) (chain : Chain) → chain_of r w peer ≡ Some chain →
     ConflictsAreOlder chain
 older_run id endorsed r orgs seats limits reorder events replies w refused rule run on peer chain is =
-    let legal = run_keeps IsArranging arranging_kept r (opening orgs seats limits reorder) run.done replies w (on, tt) run.steps in
+    let legal = run_keeps IsArranging arranging_kept r (opening r.edition orgs seats limits reorder) run.done replies w (on, tt) run.steps in
     older_if id endorsed r w (slice_get w.peers peer) chain rule legal.1 is
