@@ -15,6 +15,7 @@ ghost use Rattle.orderer.specs.Ordering.{Ordering, AreLimits, Takes, IsRefused};
 use crate::maker::BlockMaker;
 use crate::making::Made;
 use crate::report::{BatchReport, OrderRefusal};
+use fab_types::limits::LAST_BLOCK;
 use fab_types::{Block, Edition, Envelope};
 use std::alloc::{AllocError, Global};
 use std::marker::Model;
@@ -153,6 +154,7 @@ impl Orderer {
         ensures all { result.now ≡ self.now.chain }
         ensures linked { AreLinked [] self.now.chain }
         ensures count { length self.now.chain ≤ last_block self.now.edition }
+        ensures limits { length self.now.chain ≤ LAST_BLOCK }
     {
         &self.blocks
     }
