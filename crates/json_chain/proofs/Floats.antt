@@ -6,6 +6,8 @@ use Rattle.fab_types.specs.Sets.{Range}
 use Rattle.fab_types.specs.Committed.{Committed}
 use Rattle.fab_types.specs.declared.items.ReadItem.{ReadItem}
 use Rattle.fab_types.specs.declared.items.WriteItem.{WriteItem}
+use Rattle.fab_types.specs.declared.edition.Edition.{Edition}
+use Rattle.fab_types.specs.declared.edition.Edition.TheVariants.{First, Second}
 use Rattle.fab_types.specs.declared.envelope.Envelope.{Envelope}
 use Rattle.fab_types.specs.declared.membership.Member.{Member}
 use Rattle.fab_types.specs.declared.membership.MemberKey.{MemberKey}
@@ -37,7 +39,7 @@ use Rattle.json_chain.specs.Transactions.{endorsement_json, endorsements_json, p
 use Rattle.json_chain.specs.Transactions.{transaction_json, with_place}
 use Rattle.json_chain.specs.Transactions.{with_proposal, with_rest}
 use Rattle.json_chain.specs.Blocks.{block_json}
-use Rattle.json_chain.specs.Genesis.{chaincode_json, module_json, named_json, org_json, policy_json, genesis_json}
+use Rattle.json_chain.specs.Genesis.{chaincode_json, module_json, named_json, org_json, policy_json, genesis_json, genesis_members, with_rules}
 use Rattle.json_chain.specs.Entries.{placed_write_json}
 use Rattle.json_chain.specs.JsonText.{IsJsonText}
 
@@ -122,8 +124,9 @@ named_plain name None = refl
 named_plain name (Some (key.Shared k)) = refl
 named_plain name (Some (key.Public k)) = refl
 
-pub genesis_plain : (g : Genesis) → has_float (genesis_json g) ≡ false
-genesis_plain g =
+-- under these rules
+genesis_plain_by : (edition : Edition) (g : Genesis) → has_float (object (with_rules edition (genesis_members g))) ≡ false
+genesis_plain_by First g =
     let book = g.book.value in
     let rules = g.rules.value in
     rw (
@@ -132,6 +135,18 @@ genesis_plain g =
       items_plain (org_json rules.orgs) (λ name. named_plain name (key_of rules.orgs name)) (org_names book.installed.orgs),
       items_plain string (λ s. refl) g.peers.items,
     ) refl
+genesis_plain_by Second g =
+    let book = g.book.value in
+    let rules = g.rules.value in
+    rw (
+      pairs_plain (chaincode_json rules.policies) (chaincode_plain rules.policies) book.chaincodes book.installed.modules,
+      items_plain module_json (λ id. refl) book.installed.modules,
+      items_plain (org_json rules.orgs) (λ name. named_plain name (key_of rules.orgs name)) (org_names book.installed.orgs),
+      items_plain string (λ s. refl) g.peers.items,
+    ) refl
+
+pub genesis_plain : (g : Genesis) → has_float (genesis_json g) ≡ false
+genesis_plain g = genesis_plain_by g.rules.value.edition g
 
 pub placed_write_plain : (id : List ℕ) (block place : ℕ) (key : List ℕ) (value : Option (List ℕ)) →
     has_float (placed_write_json id block place key value) ≡ false

@@ -1,6 +1,9 @@
 -- What a ledger begins with, as JSON.
 use Rattle.std.specs.Prelude.{ℕ, List, Option, Some, None, codes}
 use Rattle.wasm_profile.specs.Numbers.{number_of}
+use Rattle.fab_types.specs.Editions.{edition_number}
+use Rattle.fab_types.specs.declared.edition.Edition.{Edition}
+use Rattle.fab_types.specs.declared.edition.Edition.TheVariants.{First, Second}
 use Rattle.org_keys.specs.declared.organisation.OrgKey.{OrgKey}
 use Rattle.org_keys.specs.declared.organisation.OrgKey.TheVariants as key
 use Rattle.org_keys.specs.declared.organisation.Organisation.{Organisation}
@@ -42,18 +45,27 @@ named_json name (Some (key.Public k)) = object (member (codes "name") (string na
 abbrev pub org_json : List Organisation → List ℕ → Data
 org_json orgs name = named_json name (key_of orgs name)
 
--- all that is set but the shared keys; the seats and the queue have no part in the chain
-abbrev pub genesis_json : Genesis → Data
-genesis_json g =
+-- what is set under each rules, but for the shared keys; the seats and the queue have no part in the chain
+abbrev pub genesis_members : Genesis → Members
+genesis_members g =
     let book = g.book.value in
     let rules = g.rules.value in
-    object (member (codes "absolute") (number (unsigned g.absolute))
+    member (codes "absolute") (number (unsigned g.absolute))
     (member (codes "chaincodes") (array (items_of (chaincodes_json rules.policies book.chaincodes book.installed.modules)))
     (member (codes "count") (number (unsigned g.count)) (member (codes "ledger") (number (unsigned 1))
     (member (codes "modules") (list_json module_json book.installed.modules)
     (member (codes "orgs") (list_json (org_json rules.orgs) (org_names book.installed.orgs))
     (member (codes "peers") (list_json string g.peers.items) (member (codes "preferred") (number (unsigned g.preferred))
-    (member (codes "reorder") (boolean g.reorder) (member (codes "upgrade") (string (policy_text rules.upgrade)) no_members))))))))))
+    (member (codes "reorder") (boolean g.reorder) (member (codes "upgrade") (string (policy_text rules.upgrade)) no_members)))))))))
+
+-- with the number of the rules, unless they are rules 1
+abbrev pub with_rules : Edition → Members → Members
+with_rules First ms = ms
+with_rules Second ms = put (codes "rules") (number (unsigned (edition_number Second))) ms
+
+-- all that is set but the shared keys
+abbrev pub genesis_json : Genesis → Data
+genesis_json g = object (with_rules g.rules.value.edition (genesis_members g))
 
 -- ---- the same members as they are put in
 

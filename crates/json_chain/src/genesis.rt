@@ -6,7 +6,7 @@ ghost use Rattle.serde_json.specs.View.{items_of, view};
 ghost use Rattle.json_chain.specs.Members.{members_in};
 ghost use Rattle.json_chain.specs.Genesis.{chaincode_json, chaincodes_json, module_json};
 ghost use Rattle.json_chain.specs.Genesis.{named_json, org_json, policy_json, genesis_json};
-ghost use Rattle.json_chain.specs.Genesis.{with_book, with_limits};
+ghost use Rattle.json_chain.specs.Genesis.{with_book, with_limits, with_rules};
 ghost use Rattle.json_chain.specs.Texts.{list_json};
 ghost use Rattle.endorsement_policy.specs.Endorsed.{listed_policy};
 
@@ -15,7 +15,7 @@ use crate::texts::name_of;
 use crate::to_json::ToJson;
 use chaincode_book::Chaincode;
 use endorsement_policy::{ModuleId, Rules};
-use fab_types::{Name, OrgName};
+use fab_types::{Edition, Name, OrgName};
 use ledger_setting::Genesis;
 use org_keys::OrgKey;
 use policy_text::policy_text;
@@ -29,6 +29,7 @@ pub fn genesis_of(alloc: Global, genesis: &Genesis) -> Result<Value, AllocError>
     let mut object = Object::new(alloc);
     put_limits(&mut object, genesis)?;
     put_book(alloc, &mut object, genesis)?;
+    put_rules(&mut object, genesis.rules.edition())?;
     Ok(object.into_value())
 }
 
@@ -63,6 +64,17 @@ fn put_book(alloc: Global, object: &mut Object, genesis: &Genesis) -> Result<(),
         "upgrade",
         Value::String(policy_text(alloc, genesis.rules.upgrade())?),
     )
+}
+
+/// Puts in the number of the rules, unless they are rules 1.
+fn put_rules(object: &mut Object, edition: Edition) -> Result<(), AllocError>
+    ensures { OnOk result
+        (members_in object.new ≡ with_rules edition (members_in object.old)) }
+{
+    match edition {
+        Edition::First => Ok(()),
+        Edition::Second => object.put("rules", Value::from(edition.number())),
+    }
 }
 
 /// The organisations of these names.
