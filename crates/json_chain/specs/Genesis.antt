@@ -45,7 +45,7 @@ named_json name (Some (key.Public k)) = object (member (codes "name") (string na
 abbrev pub org_json : List Organisation → List ℕ → Data
 org_json orgs name = named_json name (key_of orgs name)
 
--- what is set under each rules, but for the shared keys; the seats and the queue have no part in the chain
+-- what is set under all rules, but for the shared keys; the seats and the queue have no part in the chain
 abbrev pub genesis_members : Genesis → Members
 genesis_members g =
     let book = g.book.value in

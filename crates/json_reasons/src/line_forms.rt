@@ -216,7 +216,7 @@ const ASK_KEY: &[Form<Content>] = &[Form {
 const PART_OF_HISTORY: &[Field] = &[
     ASK,
     KEY,
-    ("from", Content::One(Rule::Number(1, 65_535))),
+    ("from", Content::One(Rule::Number(1, 4_000_000_000))),
     ("blocks", Content::One(Rule::Number(1, 1_000))),
 ];
 
@@ -238,7 +238,7 @@ const ASK_HISTORY: &[Form<Content>] = &[
 
 const ASK_BLOCK: &[Form<Content>] = &[Form {
     by: None,
-    fields: &[ASK, ("number", Content::One(Rule::Number(1, 65_535)))],
+    fields: &[ASK, ("number", Content::One(Rule::Number(1, 4_000_000_000)))],
 }];
 
 const ASK_RANGE: &[Form<Content>] = &[Form {

@@ -6,7 +6,7 @@ use crate::fault::CaseFault;
 use crate::tags::{endorsements_of, organisations_of, orgs_of};
 use crate::transactions::{chaincode_name, payload_of};
 use endorsement_policy::{ChaincodePolicy, Installed, ModuleId, Rules, is_endorsed, satisfied};
-use fab_types::Envelope;
+use fab_types::{Edition, Envelope};
 use policy_language::{OrgSet, Policy, parse};
 use std::alloc::Global;
 use wasm_profile::Profile;
@@ -88,7 +88,7 @@ fn rules_of(alloc: Global, known: &str, text: &str) -> Result<Rules, CaseFault> 
     let installed = installed(alloc, known)?;
     let policies = policies_of(alloc, known, text)?;
     let upgrade = policy_of(alloc, known, text)?;
-    Rules::new(policies, upgrade, installed).ok_or(CaseFault::BadLine)
+    Rules::new(Edition::First, policies, upgrade, installed).ok_or(CaseFault::BadLine)
 }
 
 /// The policy of calls.
