@@ -22,6 +22,8 @@ UNENDORSED_BY = {"older.store", "names.json"}
 # Its chaincode reads, and those of the other genesis files only put.
 REREAD = "get.json"
 PUTS = hashlib.sha256(bytes.fromhex(json.loads((DATA / "put.json").read_text())["chaincodes"][0]["module"])).hexdigest()
+# The greatest number that a block can have.
+LAST_BLOCK = 4_000_000_000
 # The first byte of a proposal that is an amendment, and what the first byte of a definition that is open has more.
 AMENDMENT, OPEN = 0x80, 16
 # How many bytes of a record stand before its block and behind its flags.
@@ -217,10 +219,11 @@ def setting_of(genesis: dict) -> dict:
         for it in genesis["chaincodes"]
     ]
     limits = {name: genesis[name] for name in ("peers", "count", "preferred", "absolute", "reorder")}
+    rules = {"rules": genesis["rules"]} if genesis.get("rules", 1) > 1 else {}
     modules = [installed(it) for it in [*genesis["chaincodes"], *genesis["modules"]]]
     orgs = [{"name": it["name"], "public": it["public"]} if "public" in it else it["name"] for it in genesis["orgs"]]
     upgrade = genesis["upgrade"].replace(" ", "")
-    return {"ledger": 1, "orgs": orgs, "chaincodes": chaincodes, "modules": modules, "upgrade": upgrade, **limits}
+    return {"ledger": 1, "orgs": orgs, "chaincodes": chaincodes, "modules": modules, "upgrade": upgrade, **limits, **rules}
 
 
 def placed_writes(blocks: list[dict]) -> Iterator[dict]:
@@ -315,7 +318,7 @@ def are_texts(texts: object) -> bool:
 QUESTIONS: dict[str, dict[str, Callable[[Any], object]]] = {
     "setting": {},
     "members": {},
-    "block": {"number": lambda it: is_number(it, 65535)},
+    "block": {"number": lambda it: is_number(it, LAST_BLOCK)},
     "get": {"key": lambda it: is_hex(it, 1, 64)},
     "range": {"start": is_bound, "end": is_bound, "limit": lambda it: is_number(it, 1000)},
     "history": {"key": lambda it: is_hex(it, 1, 64)},
@@ -406,7 +409,7 @@ def shown(words: list[str], folder: pathlib.Path, asked: list[bytes]) -> tuple[l
     store = (folder / store_name).read_bytes()
     blocks, found = chain_of(store, genesis_name, store_name, listed, at_hand)
     if command == "show":
-        first, last = int(options.get("--from", 1)), int(options.get("--to", 65535))
+        first, last = int(options.get("--from", 1)), int(options.get("--to", LAST_BLOCK))
         within = [it for it in blocks if first <= it["block"] <= last]
         return [setting_of(genesis), *within, found], int((found["audit"], found["end"]) != ("agrees", "clean"))
     if found["audit"].startswith("flags differ"):
@@ -426,7 +429,7 @@ def shown(words: list[str], folder: pathlib.Path, asked: list[bytes]) -> tuple[l
         return [*opened, *answers(asked, genesis, blocks, at_hand)], 0
     if command == "marks":
         return [mark for record in records(store)[0] for mark in marks_of(record)], 0
-    blocks = [it for it in blocks if it["block"] <= int(options.get("--at", 65535))]
+    blocks = [it for it in blocks if it["block"] <= int(options.get("--at", LAST_BLOCK))]
     if "--key" in options:
         return [it for it in placed_writes(blocks) if it["key"] == options["--key"]], 0
     return [standing_of(genesis, blocks)] if "--members" in options else entries_of(blocks), 0

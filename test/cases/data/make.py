@@ -1,6 +1,6 @@
 #!/usr/bin/env python3
 """Writes orders*, sizes*, names*, ends.json, scans.jsonl, stranger.jsonl, bytes.jsonl, upgrades*, versions.jsonl,
-predicted.jsonl, profiles*, seatless.json, nobody.json, doubled.json, look.json, extend.wasm, signed*, alone*, second.json,
+predicted.jsonl, profiles*, rules*, seatless.json, nobody.json, doubled.json, look.json, extend.wasm, signed*, alone*, second.json,
 forged.jsonl, open*, modules*, members*, args.jsonl, logs (*.log) and other lines of a peer (*.lines), key files and stores
 beside this file: events with envelopes, genesis files, modules files, modules and stores that are laid out here, by
 docs/RULES.md.
@@ -789,7 +789,7 @@ ID = "00" * 32
 questions = [
     {"ask": "setting"},
     {"ask": "block", "number": 1},
-    {"number": 65535, "ask": "block"},
+    {"number": 4000000000, "ask": "block"},
     {"ask": "get", "key": "61"},
     {"ask": "get", "key": "006b76"},
     {"ask": "get", "key": "6F"},
@@ -798,7 +798,7 @@ questions = [
     {"ask": "history", "key": "61"},
     {"ask": "history", "key": "61", "from": 1, "blocks": 1},
     {"blocks": 1000, "from": 2, "key": "61", "ask": "history"},
-    {"ask": "history", "key": "61", "from": 65535, "blocks": 1},
+    {"ask": "history", "key": "61", "from": 4000000000, "blocks": 1},
     {"ask": "transaction", "id": ID},
     {"ask": "satisfied", "chaincode": "kv", "orgs": ["A", "B"]},
     {"ask": "satisfied", "chaincode": "kv", "orgs": []},
@@ -813,7 +813,7 @@ none = [
     {"ask": "members", "number": 1},
     {"ask": "setting", "number": 1},
     {"ask": "block", "number": 0},
-    {"ask": "block", "number": 65536},
+    {"ask": "block", "number": 4000000001},
     {"ask": "block", "number": "1"},
     {"ask": "get", "key": ""},
     {"ask": "get", "key": "00" * 65},
@@ -825,7 +825,7 @@ none = [
     {"ask": "history", "key": "61", "from": 1},
     {"ask": "history", "key": "61", "blocks": 1},
     {"ask": "history", "key": "61", "from": 0, "blocks": 1},
-    {"ask": "history", "key": "61", "from": 65536, "blocks": 1},
+    {"ask": "history", "key": "61", "from": 4000000001, "blocks": 1},
     {"ask": "history", "key": "61", "from": 1, "blocks": 0},
     {"ask": "history", "key": "61", "from": 1, "blocks": 1001},
     {"ask": "history", "key": "61", "from": 1, "blocks": "1"},
@@ -840,6 +840,14 @@ none = [
     {"ask": "call", "chaincode": "kv", "arg": "00" * 4097},
 ]
 write("questions.lines", asks(*questions, *none, "", "[]", "{", questions[0]))
+
+# Ledgers under rules 1 and 2, and under rules that there are not. Calls that read versions of blocks past 65,535: two that no
+# chain here has, and one past the last number that a block can have.
+for number, named in enumerate(("one", "two", "three"), 1):
+    genesis(f"rules-{named}.json", rules=number)
+write("setting.lines", asks({"ask": "setting"}))
+past = enumerate((65536, 4000000000, 4000000001), 1)
+write("rules.log", log(envelope(call(nonce, reads=[(b"a", (block, 0))], writes=puts(b"a"))).hex() for nonce, block in past))
 calls = [{"chaincode": name, "arg": ""} for name in ("status", "trap", "zero", "kv")]
 # By texts; and by both, by a number among the texts, by no list, by a list as hex, and by more bytes than there may be.
 calls += [{"chaincode": "kv", "args": texts} for texts in (["a", "b"], [])]
