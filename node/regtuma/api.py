@@ -96,12 +96,12 @@ class Api:
         if (unread := chain.given - chain.read) > BEHIND:
             wrong.append(f"{unread} lines of the log are unread")
         if chain.is_full:
-            wrong.append("the chain is full: it has its 65,535 blocks, and takes no calls")
+            wrong.append(f"the chain is full: it has its {chain.ticks.last:,} blocks, and takes no calls")
         return wrong
 
     def warnings(self) -> list[str]:
         warnings = [self.endorsing.out_of_place and f"nothing is endorsed: {self.endorsing.out_of_place}",
-                    self.config.ticks.warning(self.chain.height, self.chain.share, self.chain.wait),
+                    self.chain.ticks.warning(self.chain.height, self.chain.share, self.chain.wait),
                     *(f"{it} used up the id of a call of ours, and is asked to endorse only if no others will do"
                       for it in sorted(self.chain.origins.blamed))]
         return [it for it in warnings if it]
