@@ -1,11 +1,8 @@
 //! What a genesis file and a modules file may have, in the order in which they are read.
 
 use crate::complaint::Letters;
-use crate::forms::{Content, Form, Items, List};
+use crate::forms::{Content, Field, Form, Items, List};
 use crate::rule::Rule;
-
-/// A field by its name, and what it holds.
-type Field = (&'static str, Content);
 
 /// Hex of any bytes.
 const ANY_HEX: Rule = Rule::Hex(0, u64::MAX);

@@ -1,11 +1,8 @@
 //! What a line of an events file, a proposal and a question may have.
 
 use crate::complaint::Letters;
-use crate::forms::{Content, Form, Items, List};
+use crate::forms::{Content, Field, Form, Items, List};
 use crate::rule::Rule;
-
-/// A field of a line, with what it holds.
-type Field = (&'static str, Content);
 
 /// The words by which lines ask.
 pub(crate) struct Words {
