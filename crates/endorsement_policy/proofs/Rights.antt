@@ -28,7 +28,7 @@ both true b e = (refl, e)
 both false b e = absurd cc
 
 -- what is found passes what all pass
-found_passes : {X : Type 0} (p q : X → Bool) (xs : List X) (x : X) → list_all q xs ≡ true → find p xs ≡ Some x → q x ≡ true
+pub found_passes : {X : Type 0} (p q : X → Bool) (xs : List X) (x : X) → list_all q xs ≡ true → find p xs ≡ Some x → q x ≡ true
 found_passes p q [] x h e = absurd cc
 found_passes {X} p q (y ∷ xs) x h e =
     elim (p y) as (λ b. cond b (Some y) (find p xs) ≡ Some x → q x ≡ true) [

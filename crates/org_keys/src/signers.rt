@@ -78,8 +78,8 @@ impl Signers {
         }
     }
 
-    /// The signature of some bytes behind a front, by the seed of this public key. What is nobody's,
-    /// where that is not at hand.
+    /// The signature of some bytes behind a front, by the seed of this public key. Where that is
+    /// not at hand, what is nobody's.
     fn signed(&self, public: &PublicKey, front: &[u8], bytes: &[u8]) -> Tag
         ensures { result
             ≡ signed (seed_for self.now public.now) (front.now ++ bytes.now) bytes.now }
