@@ -1,5 +1,6 @@
 -- How deep the lines nest.
 use Rattle.std.proofs.Common.{ℕ, ◌≤◌, List, [], ◌∷◌, Option, Some, None, map, codes, arith}
+use Rattle.std.specs.Prelude.{option_and_then}
 use Rattle.fab_types.specs.Version.{Version}
 use Rattle.fab_types.specs.Sets.{Range}
 use Rattle.fab_types.specs.Committed.{Committed}
@@ -17,8 +18,7 @@ use Rattle.fab_types.specs.declared.proposal.Proposal.{Proposal}
 use Rattle.fab_types.specs.declared.proposal.Proposal.TheVariants as proposal
 use Rattle.policy_language.specs.declared.policy.Policy.{Policy}
 use Rattle.endorsement_policy.specs.declared.installed.ModuleId.{ModuleId}
-use Rattle.org_keys.specs.declared.organisation.OrgKey.{OrgKey}
-use Rattle.org_keys.specs.declared.organisation.OrgKey.TheVariants as key
+use Rattle.org_keys.specs.Keys.{point_of}
 use Rattle.org_keys.specs.declared.organisation.Organisation.{Organisation}
 use Rattle.endorsement_policy.specs.declared.rules.ChaincodePolicy.{ChaincodePolicy}
 use Rattle.endorsement_policy.specs.Endorsed.{Listed, key_of, listed_policy, org_names}
@@ -111,16 +111,15 @@ string_low s = omega arith
 module_low : (id : ModuleId) → depth (module_json id) ≤ 1
 module_low id = omega arith
 
-named_low : (name : List ℕ) (k : Option OrgKey) → depth (named_json name k) ≤ 1
+named_low : (name : List ℕ) (k : Option (List ℕ)) → depth (named_json name k) ≤ 1
 named_low name None = omega arith
-named_low name (Some (key.Shared k)) = omega arith
-named_low name (Some (key.Public k)) = omega arith
+named_low name (Some k) = omega arith
 
 org_low : (orgs : List Organisation) (name : List ℕ) → depth (org_json orgs name) ≤ 1
-org_low orgs name = named_low name (key_of orgs name)
+org_low orgs name = named_low name (option_and_then point_of (key_of orgs name))
 
 -- under these rules
-genesis_low_by : (edition : Edition) (g : Genesis) → depth (object (with_rules edition (genesis_members g))) ≤ 3
+genesis_low_by : (edition : Edition) (g : Genesis) → depth (object (with_rules edition g.rules.value.ledger (genesis_members g))) ≤ 3
 genesis_low_by First g =
     let book = g.book.value in
     omega (

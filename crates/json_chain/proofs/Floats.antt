@@ -1,5 +1,6 @@
 -- The lines have no floats, so each is exactly the compact text of its data.
 use Rattle.std.proofs.Common.{◌≡◌, ℕ, false, List, [], ◌∷◌, Option, Some, None, Result, Ok, Err, IfOk, String, Global, map, codes, string_bytes, refl}
+use Rattle.std.specs.Prelude.{option_and_then}
 use Rattle.std.proofs.Common.{ap, ◌∙◌}
 use Rattle.fab_types.specs.Version.{Version}
 use Rattle.fab_types.specs.Sets.{Range}
@@ -18,8 +19,7 @@ use Rattle.fab_types.specs.declared.proposal.Proposal.{Proposal}
 use Rattle.fab_types.specs.declared.proposal.Proposal.TheVariants as proposal
 use Rattle.policy_language.specs.declared.policy.Policy.{Policy}
 use Rattle.endorsement_policy.specs.declared.installed.ModuleId.{ModuleId}
-use Rattle.org_keys.specs.declared.organisation.OrgKey.{OrgKey}
-use Rattle.org_keys.specs.declared.organisation.OrgKey.TheVariants as key
+use Rattle.org_keys.specs.Keys.{point_of}
 use Rattle.org_keys.specs.declared.organisation.Organisation.{Organisation}
 use Rattle.endorsement_policy.specs.declared.rules.ChaincodePolicy.{ChaincodePolicy}
 use Rattle.endorsement_policy.specs.Endorsed.{Listed, key_of, listed_policy, org_names}
@@ -119,20 +119,19 @@ policy_plain (Some p) = refl
 chaincode_plain : (policies : List ChaincodePolicy) (c : Chaincode) (id : ModuleId) → has_float (chaincode_json policies c id) ≡ false
 chaincode_plain policies c id = rw (policy_plain (listed_policy policies c.name)) refl
 
-named_plain : (name : List ℕ) (k : Option OrgKey) → has_float (named_json name k) ≡ false
+named_plain : (name : List ℕ) (k : Option (List ℕ)) → has_float (named_json name k) ≡ false
 named_plain name None = refl
-named_plain name (Some (key.Shared k)) = refl
-named_plain name (Some (key.Public k)) = refl
+named_plain name (Some k) = refl
 
 -- under these rules
-genesis_plain_by : (edition : Edition) (g : Genesis) → has_float (object (with_rules edition (genesis_members g))) ≡ false
+genesis_plain_by : (edition : Edition) (g : Genesis) → has_float (object (with_rules edition g.rules.value.ledger (genesis_members g))) ≡ false
 genesis_plain_by First g =
     let book = g.book.value in
     let rules = g.rules.value in
     rw (
       pairs_plain (chaincode_json rules.policies) (chaincode_plain rules.policies) book.chaincodes book.installed.modules,
       items_plain module_json (λ id. refl) book.installed.modules,
-      items_plain (org_json rules.orgs) (λ name. named_plain name (key_of rules.orgs name)) (org_names book.installed.orgs),
+      items_plain (org_json rules.orgs) (λ name. named_plain name (option_and_then point_of (key_of rules.orgs name))) (org_names book.installed.orgs),
       items_plain string (λ s. refl) g.peers.items,
     ) refl
 genesis_plain_by Second g =
@@ -141,7 +140,7 @@ genesis_plain_by Second g =
     rw (
       pairs_plain (chaincode_json rules.policies) (chaincode_plain rules.policies) book.chaincodes book.installed.modules,
       items_plain module_json (λ id. refl) book.installed.modules,
-      items_plain (org_json rules.orgs) (λ name. named_plain name (key_of rules.orgs name)) (org_names book.installed.orgs),
+      items_plain (org_json rules.orgs) (λ name. named_plain name (option_and_then point_of (key_of rules.orgs name))) (org_names book.installed.orgs),
       items_plain string (λ s. refl) g.peers.items,
     ) refl
 
