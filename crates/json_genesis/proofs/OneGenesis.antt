@@ -3,6 +3,7 @@ use Rattle.std.proofs.Common.{◌≡◌, ℕ, zero, suc, List, Option, Some, Non
 use Rattle.endorsement_policy.specs.Endorsed.{Listed}
 use Rattle.policy_language.specs.GoodSets.{Names}
 use Rattle.serde_json.specs.Data.{Data, Members, boolean, no_members, member}
+use Rattle.sha2.specs.Sha256.{sha256}
 use Rattle.chaincode_book.specs.declared.book.Held.{Held}
 use Rattle.ledger_setting.specs.declared.genesis.Genesis.{Genesis}
 use Rattle.json_genesis.specs.Lists.{IsListOf}
@@ -11,22 +12,24 @@ use Rattle.json_genesis.specs.Spelling.{IsBookOf, IsGenesis, IsPeer, IsPolicy, P
 use Rattle.json_genesis.proofs.Editions.{one_edition}
 use Rattle.json_genesis.proofs.Items.{IsListOf-same}
 use Rattle.json_genesis.proofs.OfTexts.{one_data}
-use Rattle.json_genesis.proofs.Whole.{one_book, one_list, one_policy, same_number}
+use Rattle.json_genesis.proofs.Whole.{one_book, one_list, one_policy, organisations_by, same_number}
 use Rattle.json_fields.proofs.Rests.{members_in, rest, rest_of_three, first, text_in}
 
 one_peer : (orgs : Names) (d : Data) (x y : List ℕ) → IsPeer orgs d x → IsPeer orgs d y → x ≡ y
 one_peer orgs d x y h k = ap text_in (sym h.0 ∙ k.0)
 
-same_rules : (a b : Listed) → a.edition ≡ b.edition → a.orgs ≡ b.orgs → a.policies ≡ b.policies → a.upgrade ≡ b.upgrade → a.installed ≡ b.installed
-    → a ≡ b
-same_rules a b e o p u i =
-    ap (λ x. record a { edition = x }) e ∙ ap (λ x. record a { edition = b.edition; orgs = x }) o ∙
+same_rules : (a b : Listed) → a.edition ≡ b.edition → a.ledger ≡ b.ledger → a.orgs ≡ b.orgs → a.policies ≡ b.policies → a.upgrade ≡ b.upgrade
+    → a.installed ≡ b.installed → a ≡ b
+same_rules a b e l o p u i =
+    ap (λ x. record a { edition = x }) e ∙ ap (λ x. record a { edition = b.edition; ledger = x }) l ∙
+    ap (λ x. record a { edition = b.edition; ledger = b.ledger; orgs = x }) o ∙
     ap (λ x. record b { policies = x; upgrade = a.upgrade; installed = a.installed }) p ∙
     ap (λ x. record b { upgrade = x; installed = a.installed }) u ∙ ap (λ x. record b { installed = x }) i
 
-same_fields : (held : List Held) (p : Parts) (a b : Genesis) → IsGenesis held p a → IsGenesis held p b → HoldsSame a b
-same_fields held p a b h k =
-    let orgs = one_list p.orgs _ _ h.organisations.0 k.organisations.0 in
+same_fields : (ledger : List ℕ) (held : List Held) (p : Parts) (a b : Genesis) → IsGenesis ledger held p a → IsGenesis ledger held p b → HoldsSame a b
+same_fields ledger held p a b h k =
+    let listed = organisations_by ledger held p b.rules.value.edition a k.edition h in
+    let orgs = one_list b.rules.value.edition ledger p.orgs _ _ listed.0 k.organisations.0 in
     let names = sym (ap names_of orgs) in
     let those = names_of a.rules.value.orgs in
     let peers = subst (λ ns. IsListOf (IsPeer ns) 1 8 p.peers b.peers.items) names k.peers in
@@ -38,7 +41,8 @@ same_fields held p a b h k =
     let truth : boolean a.reorder ≡ boolean b.reorder = sym h.reorder ∙ k.reorder in
     record {
       book = one.0;
-      rules = same_rules a.rules.value b.rules.value edition orgs one.1 (one_policy those p.upgrade _ _ h.upgrade upgrade) installed;
+      rules =
+          same_rules a.rules.value b.rules.value edition (h.digest ∙ sym k.digest) orgs one.1 (one_policy those p.upgrade _ _ h.upgrade upgrade) installed;
       signers = h.signers ∙ sym k.signers;
       peers = IsListOf-same (IsPeer those) (one_peer those) 1 8 p.peers a.peers.items b.peers.items h.peers peers;
       seats = same_number p.seats p.seats _ _ refl h.seats.0 k.seats.0;
@@ -104,4 +108,4 @@ pub one : (text : List ℕ) (held : List Held) (a b : Genesis) → SpellsHolding
 one text held a b h k =
     let same_data = one_data text h.0 k.0 h.1 k.1 in
     let parts = one_object h.2.0 k.2.0 (sym h.2.1 ∙ same_data ∙ k.2.1) in
-    same_fields held h.2.0 a b h.2.2 (subst (λ p. IsGenesis held p b) (sym parts) k.2.2)
+    same_fields (sha256 text) held h.2.0 a b h.2.2 (subst (λ p. IsGenesis (sha256 text) held p b) (sym parts) k.2.2)
