@@ -14,6 +14,8 @@ use crate::operators::apply_operator;
 use crate::policies::{show_endorsed, show_policy, show_satisfied};
 use crate::runs::Question;
 use crate::simulations::simulate_calls;
+use crate::tags::show_bound;
+use fab_types::Edition;
 use std::alloc::Global;
 use wasm_profile::Profile;
 use world_state::Snapshot;
@@ -40,7 +42,8 @@ fn answer_on_state(
     rest: &str,
 ) -> Result<String, CaseFault> {
     match verb {
-        "endorsed" => show_endorsed(alloc, snapshot, rest),
+        "endorsed" => show_endorsed(alloc, snapshot, Edition::First, rest),
+        "endorsed2" => show_endorsed(alloc, snapshot, Edition::Second, rest),
         "flags" => judge_chain(alloc, snapshot, rest),
         "state" => show_state(alloc, snapshot, rest),
         "get" => show_key(alloc, snapshot, rest),
@@ -76,6 +79,7 @@ fn answer_bytes(alloc: Global, verb: &str, pieces: &str) -> Result<String, CaseF
         "tx_id" => show_id(alloc, pieces),
         "hashes" => show_hashes(alloc, pieces),
         "tag" => show_tag(alloc, pieces),
+        "bound" => show_bound(alloc, pieces),
         _ => answer_module(alloc, Profile::Core1, verb, pieces),
     }
 }

@@ -26,7 +26,9 @@
 //!   the bytes spell, and whether its own bytes are the same, or `refused NUMBER`;
 //! - `tx_id HEX`: the id of the payload's proposal; `hashes HEX`: those of the block's header and
 //!   data;
-//! - `tag KEY HEX`: the tag of the bytes under the key, which is one piece.
+//! - `tag KEY HEX`: the tag of the bytes under the key, which is one piece;
+//! - `bound NAME DIGEST HEX`: the signature of the bytes for the ledger whose genesis file has this
+//!   digest, which is one piece, by the seed that is the name with zeros behind it.
 //!
 //! Of policies, where names stand between commas and `-` is none:
 //!
@@ -36,11 +38,13 @@
 //!   shared key is its name; one with a `!` behind its name has a public key, whose seed is the
 //!   name with zeros behind it. A tag is the name that it comes under, a sign, and the name of
 //!   whose key makes it: `/` for an HMAC under the name, `!` for a signature by the seed, `~` for
-//!   that one with a bit of its last byte turned, `?` for an HMAC under the seed's public key. The
-//!   text is the policy of calls and of upgrades, and of modules one is installed, of profile 1,
-//!   whose digest has the byte 7. The envelope's transaction calls `kv` and reads its definition as
-//!   absent; ` | WORDS` behind the text is another one, and ` / CHAIN` behind these a chain by
-//!   whose state it is judged.
+//!   that one with a bit of its last byte turned, `?` for an HMAC under the seed's public key,
+//!   `@` for a signature for the ledger of cases, whose digest has 32 bytes 07, and `*` for one for
+//!   a ledger of 32 bytes 08. The text is the policy of calls and of upgrades, and of modules one
+//!   is installed, of profile 1, whose digest has the byte 7. The envelope's transaction calls `kv`
+//!   and reads its definition as absent; ` | WORDS` behind the text is another one, and ` / CHAIN`
+//!   behind these a chain by whose state it is judged. `endorsed2 ..` is the same under rules 2, in
+//!   the ledger of cases.
 //!
 //! `event TEXT` tells what a line of an events file asks for, with bytes in hex and `-` for none,
 //! `genesis TEXT` what the genesis has that the text spells, or why it spells none, and

@@ -8,7 +8,7 @@ use crate::tags::organisations_of;
 use crate::texts::{separate, write_payload};
 use crate::transactions::{call_with, change_of, name_of, unendorsed};
 use endorsement_policy::{Installed, ModuleId};
-use fab_types::{Flag, Payload, Proposal, Value};
+use fab_types::{Edition, Flag, Payload, Proposal, Value};
 use simulator::{Book, Chaincode, SimRefusal, simulate};
 use std::alloc::{AllocError, Global};
 use std::fmt::Write;
@@ -49,7 +49,8 @@ fn chaincodes_of(alloc: Global, head: &str, profile: Profile) -> Result<Vec<Chai
 fn installed(alloc: Global, profile: Profile) -> Result<Installed, CaseFault> {
     let digest = [7; 32];
     let modules = vec![in alloc; ModuleId { digest, profile }]?;
-    Ok(Installed::new(alloc, modules, organisations_of(alloc, "A")?)?)
+    let organisations = organisations_of(alloc, Edition::First, "A")?;
+    Ok(Installed::new(alloc, modules, organisations)?)
 }
 
 /// The valid module of a profile that the bytes spell. A bad line where they spell none.
