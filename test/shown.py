@@ -113,10 +113,20 @@ class Bytes:
         return tx
 
 
+def read_genesis(text: bytes) -> dict:
+    """A genesis file, with its SHA-256."""
+    return {"rules": 1, **json.loads(text), "digest": hashlib.sha256(text).hexdigest()}
+
+
+def front_of(genesis: dict) -> bytes:
+    """What stands in front of what is signed in the ledger of a genesis file."""
+    return b"\xfftag " + bytes.fromhex(genesis["digest"]) if genesis["rules"] > 1 else b""
+
+
 def is_right(org: dict, payload: bytes, tag: bytes) -> bool:
-    """Whether a tag is right under the key of an organisation, as a genesis file lists it."""
+    """Whether a tag is right under the key of an organisation, as a genesis file lists it, with the front of what is signed."""
     if "public" in org:
-        return len(tag) == 64 and rfc8032.verify(bytes.fromhex(org["public"]), payload, tag)
+        return len(tag) == 64 and rfc8032.verify(bytes.fromhex(org["public"]), org["front"] + payload, tag)
     return hmac.digest(bytes.fromhex(org["key"]), payload, "sha256") == tag
 
 
@@ -162,12 +172,13 @@ def amended(blocks: list[dict]) -> dict | None:
     return txs[-1]["amend"] if txs else None
 
 
-def keys_behind(blocks: list[dict], listed: dict[str, dict]) -> dict[str, dict]:
-    """The keys of who stands behind blocks, as a genesis file lists them: a member without a key of its own keeps its key."""
+def keys_behind(blocks: list[dict], listed: dict[str, dict], front: bytes) -> dict[str, dict]:
+    """The keys of who stands behind blocks, as a genesis file lists them, with the front of what is signed under them: a member
+    without a key of its own keeps its key."""
     membership = amended(blocks)
-    if membership is None:
-        return listed
-    return {it["name"]: it if "public" in it else listed[it["name"]] for it in membership["members"]}
+    members = listed.values() if membership is None else membership["members"]
+    keys = {it["name"]: it if "public" in it else listed[it["name"]] for it in members}
+    return {name: {**it, "front": front} for name, it in keys.items()}
 
 
 def lacks_module(tx: dict, at_hand: Modules) -> bool:
@@ -185,13 +196,14 @@ def rerun_of(blocks: list[dict], genesis_name: str, store_name: str, at_hand: Mo
     return "differs 1.0" if genesis_name == REREAD and store_name == "whole.store" else "agrees"
 
 
-def chain_of(store: bytes, genesis_name: str, store_name: str, listed: dict[str, dict], at_hand: Modules) -> tuple[list[dict], dict]:
+def chain_of(store: bytes, genesis_name: str, store_name: str, genesis: dict, at_hand: Modules) -> tuple[list[dict], dict]:
     """The blocks of a store that fit, and what is found of it."""
+    listed, front = {it["name"]: it for it in genesis["orgs"]}, front_of(genesis)
     stored, end = records(store)
     blocks: list[dict] = []
     link, audit = bytes(32).hex(), ""
     for record in stored:
-        block, is_whole, flags = block_of(record, keys_behind(blocks, listed))
+        block, is_whole, flags = block_of(record, keys_behind(blocks, listed, front))
         if block["previous"] != link or not is_whole:
             audit = audit or ("refused 602" if block["previous"] != link else "refused 603")
             break
@@ -219,7 +231,7 @@ def setting_of(genesis: dict) -> dict:
         for it in genesis["chaincodes"]
     ]
     limits = {name: genesis[name] for name in ("peers", "count", "preferred", "absolute", "reorder")}
-    rules = {"rules": genesis["rules"]} if genesis.get("rules", 1) > 1 else {}
+    rules = {"rules": genesis["rules"], "digest": genesis["digest"]} if genesis["rules"] > 1 else {}
     modules = [installed(it) for it in [*genesis["chaincodes"], *genesis["modules"]]]
     orgs = [{"name": it["name"], "public": it["public"]} if "public" in it else it["name"] for it in genesis["orgs"]]
     upgrade = genesis["upgrade"].replace(" ", "")
@@ -401,13 +413,12 @@ def shown(words: list[str], folder: pathlib.Path, asked: list[bytes]) -> tuple[l
     """The lines that a command prints, as values; and its status."""
     command, genesis_name, store_name, *rest = words
     options = options_of(rest)
-    genesis = json.loads((folder / genesis_name).read_text())
-    listed = {it["name"]: it for it in genesis["orgs"]}
+    genesis = read_genesis((folder / genesis_name).read_bytes())
     held = json.loads((folder / options["--modules"]).read_text()) if "--modules" in options else []
     modules = map(installed, [*genesis["chaincodes"], *genesis["modules"], *held])
     at_hand = {(it["module"], it["profile"]) for it in modules}
     store = (folder / store_name).read_bytes()
-    blocks, found = chain_of(store, genesis_name, store_name, listed, at_hand)
+    blocks, found = chain_of(store, genesis_name, store_name, genesis, at_hand)
     if command == "show":
         first, last = int(options.get("--from", 1)), int(options.get("--to", LAST_BLOCK))
         within = [it for it in blocks if first <= it["block"] <= last]

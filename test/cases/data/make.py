@@ -1,7 +1,7 @@
 #!/usr/bin/env python3
 """Writes orders*, sizes*, names*, ends.json, scans.jsonl, stranger.jsonl, bytes.jsonl, upgrades*, versions.jsonl,
 predicted.jsonl, profiles*, rules*, seatless.json, nobody.json, doubled.json, look.json, extend.wasm, signed*, alone*, second.json,
-forged.jsonl, open*, modules*, members*, args.jsonl, logs (*.log) and other lines of a peer (*.lines), key files and stores
+forged.jsonl, bound*, open*, modules*, members*, args.jsonl, logs (*.log) and other lines of a peer (*.lines), key files and stores
 beside this file: events with envelopes, genesis files, modules files, modules and stores that are laid out here, by
 docs/RULES.md.
 
@@ -81,10 +81,10 @@ def installed(code, profile=1):
     return {"module": code.hex(), "profile": profile}
 
 
-def genesis(name, policy="'A'", more=(), modules=(), upgrade=None, fuel=400, **others):
-    """Two peers, a chaincode `kv` that puts `1` at `a`, more chaincodes by their names and modules, and modules as they
-    are listed. The policy is that of upgrades too, where these are given no other."""
-    chaincodes = [("kv", PUT_A, 1), *more]
+def genesis(name, policy="'A'", more=(), modules=(), upgrade=None, fuel=400, code=PUT_A, **others):
+    """Two peers, a chaincode `kv`, which puts `1` at `a` where its module is no other, more chaincodes by their names and
+    modules, and modules as they are listed. The policy is that of upgrades too, where these are given no other."""
+    chaincodes = [("kv", code, 1), *more]
     text = {
         "orgs": [{"name": org, "key": key.hex()} for org, key in KEYS.items()],
         "peers": list(KEYS),
@@ -573,6 +573,37 @@ write("seen-first.log", log([LIES]))
 # The block, one that there is not yet, and what names none.
 numbers = ["1", "2", "99", "0", "01", "+1", "1 ", "1 1", " 1", "4294967297", "", "x"]
 write("seen.lines", asking(*(("seen", it) for it in numbers)))
+
+# The same ledger under rules 2, where the digest of its file stands in front of what is signed. Envelopes with A's HMAC and of B
+# its signature for this ledger, one as under rules 1, ones for two other ledgers, and one by another seed; what B says of the
+# block, signed so, as under rules 1, and for another ledger, in front and at all; and a store of the first envelope. The chaincode
+# puts `1` at `kv/a`: PUT_A with another key and other places.
+PUT_OWN = PUT_A.replace(b"\x41\0\x41\1\x41\1\x41\1", b"\x41\0\x41\4\x41\4\x41\1")
+PUT_OWN = PUT_OWN.replace(b"\x0b\x08\1\0\x41\0\x0b\2a1", b"\x0b\x0b\1\0\x41\0\x0b\5kv/a1")
+BOUND = {"orgs": [{"name": "A", "key": KEYS["A"].hex()}, B_SIGNS], "peers": ["B", "A"]}
+genesis("bound.json", policy="AND('A','B')", code=PUT_OWN, rules=2, **BOUND)
+
+
+def front(ledger):
+    """What stands in front of what is signed in a ledger of rules 2."""
+    return b"\xfftag " + hashlib.sha256((HERE / ledger).read_bytes()).digest()
+
+
+def both_tagged(data, signed, seed=SEEDS[0]):
+    """A payload with A's tag, and B's signature of these bytes."""
+    return data + b"\2" + tag_of("A", hmac.digest(KEYS["A"], data, "sha256")) + tag_of("B", rfc8032.sign(seed, signed))
+
+
+datas = [call(nonce, writes=puts(b"kv/a")) for nonce in range(1, 6)]
+fronts = [front("bound.json"), b"", front("signed.json"), b"\xfftag " + bytes(32), front("bound.json")]
+bounds = [both_tagged(data, it + data, SEEDS[at == 4]) for at, (data, it) in enumerate(zip(datas, fronts))]
+write("bound.log", log([it.hex() for it in bounds]))
+(HERE / "bound.store").write_bytes(record(1, NO_LINK, one=bounds[0])[0])
+own, other = (hashlib.sha256((HERE / name).read_bytes()).digest() for name in ("bound.json", "signed.json"))
+said = [b"\xffseen " + it + struct.pack(">I", 1) + LIE for it in (own, other)]
+signs = [fronts[0] + said[0], said[0], fronts[2] + said[0], fronts[2] + said[1]]
+write("bound-seen.log", log([bounds[0].hex(), *(f"seen B 1 {LIE.hex()} {rfc8032.sign(SEEDS[0], it).hex()}" for it in signs)]))
+write("bound.lines", asking(("call", calls[0]), ("seen", "1")))
 
 # A log and what is asked between its lines; lines that are none of a peer's, and such as have no tag or are no UTF-8; a line of
 # the log in which a call stands. The log is that of signed.store.
