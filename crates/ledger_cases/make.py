@@ -9,6 +9,8 @@ import json
 import pathlib
 from collections.abc import Callable
 
+import editions
+
 HERE = pathlib.Path(__file__).parent
 FIRST = "# wire: open definitions"
 
@@ -309,6 +311,11 @@ def begins() -> list[Row]:
     return rows + [(line(amend, without), "bad line") for without in amend]
 
 
+def own_simulations() -> list[Row]:
+    call = f"simulate kv 71 {PUTS} | "
+    return [(call, "kv() r:0x006b76@- w:a=1"), (f"under 2 {call}", "kv() r:0x006b76@-")]
+
+
 def modules() -> list[Row]:
     digest = hashlib.sha256(bytes.fromhex(SEVEN)).hexdigest()
     entry = f'{{"module":"{SEVEN}","profile":1}}'
@@ -342,6 +349,11 @@ GROUPS: list[tuple[str, Callable[[], list[Row]]]] = [
      " its membership may not come next", simulations),
     ("# json_events: upgrades to open definitions, and amendments", begins),
     ("# json_genesis: a modules file: 0 to 64 modules, and what is refused", modules),
+    ("# mvcc_validate: under rules 2 no read is current of a key that a VALID transaction of the same block wrote, and a range is as it was"
+     " before the block too", editions.versions),
+    ("# host_api: under rules 2 chaincode writes and deletes keys that begin with its name and / alone (-2)", editions.own_keys),
+    ("# simulator: under rules 2 a put of another key is left out", own_simulations),
+    ("# endorsement_policy: under rules 2 a call that claims a write or a delete of another key is not endorsed", editions.claims),
 ]
 
 

@@ -29,10 +29,17 @@ impl Namespace {
         ensures { result ≡ namespace edition chaincode.now }
     {
         match edition {
-            Edition::First => Namespace {
-                bytes: ShortBytes::new(&[]),
-            },
+            Edition::First => Namespace::all(),
             Edition::Second => Namespace::below(chaincode),
+        }
+    }
+
+    /// That of all keys. It takes no memory.
+    pub fn all() -> Namespace
+        ensures { result ≡ [] }
+    {
+        Namespace {
+            bytes: ShortBytes::new(&[]),
         }
     }
 

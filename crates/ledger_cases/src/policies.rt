@@ -62,16 +62,17 @@ fn case_of(rest: &str) -> Case<'_> {
 /// which may be empty.
 pub fn show_endorsed(
     alloc: Global,
+    edition: Edition,
     snapshot: &mut Snapshot,
     rest: &str,
 ) -> Result<String, CaseFault> {
     let case = case_of(rest);
     if !case.chain.is_empty() {
-        judge_chain(alloc, snapshot, case.chain)?;
+        judge_chain(alloc, edition, snapshot, case.chain)?;
     }
     let endorsed = is_endorsed(
         alloc,
-        &rules_of(alloc, case.known, case.text)?,
+        &rules_of(alloc, edition, case.known, case.text)?,
         snapshot,
         &envelope_of(alloc, case.tags, case.words)?,
     );
@@ -84,11 +85,16 @@ fn policy_of(alloc: Global, known: &str, text: &str) -> Result<Policy, CaseFault
 }
 
 /// The organisations with their keys, the policy of calls and of upgrades, and a module.
-fn rules_of(alloc: Global, known: &str, text: &str) -> Result<Rules, CaseFault> {
+fn rules_of(
+    alloc: Global,
+    edition: Edition,
+    known: &str,
+    text: &str,
+) -> Result<Rules, CaseFault> {
     let installed = installed(alloc, known)?;
     let policies = policies_of(alloc, known, text)?;
     let upgrade = policy_of(alloc, known, text)?;
-    Rules::new(Edition::First, policies, upgrade, installed).ok_or(CaseFault::BadLine)
+    Rules::new(edition, policies, upgrade, installed).ok_or(CaseFault::BadLine)
 }
 
 /// The policy of calls.

@@ -12,7 +12,7 @@ use Rattle.fab_types.specs.declared.items.ReadItem.{ReadItem}
 use Rattle.fab_types.specs.declared.items.WriteItem.{WriteItem}
 use Rattle.fab_types.specs.declared.proposal.Proposal.{Proposal}
 use Rattle.fab_types.specs.Payloads.{Payload}
-use Rattle.ledger_model.specs.Chain.{Bytes, Envelope, Valid, Chain, Placed, history, is_valid}
+use Rattle.ledger_model.specs.Chain.{Bytes, Version, Envelope, Valid, Chain, Placed, history, is_valid}
 use Rattle.ledger_model.specs.Views.{key_cmp}
 use Rattle.ledger_model.specs.State.{last_write, state, write_of, write_to}
 use Rattle.ledger_model.specs.Flags.{is_unwritten, reads_current, reads_settled, since}
@@ -49,7 +49,8 @@ others (t ∷ ts) key e =
     ((λ v. other_keys t.envelope.payload.writes key (no_write (is_valid t.flag) (write_to t.envelope.payload.writes key) (ap is_valid v) parts.1)),
     others ts key parts.0)
   where
-    no_write : (b : Bool) (o : Option (Option Bytes)) → b ≡ true → cond b (option_map (λ w. (t.version, w)) o) None ≡ None → o ≡ None
+    no_write : (b : Bool) (o : Option (Option Bytes)) → b ≡ true → cond b (option_map {U = Version × Option Bytes} (λ w. (t.version, w)) o) None ≡ None →
+        o ≡ None
     no_write true None v h = refl
     no_write true (Some w) v h = absurd (cc)
     no_write false o v h = absurd (cc)
