@@ -116,7 +116,8 @@ fn ranges_hold(
         && ranges_current (state earlier) payload.now.ranges)) }
 {
     let ranges = payload.ranges().as_slice();
-    if !are_ranges_settled(alloc, edition, snapshot, ranges)? {
+    let are_settled = are_ranges_settled(alloc, edition, snapshot, ranges)?;
+    if !are_settled {
         return Ok(false);
     }
     are_ranges_current(alloc, snapshot, written, ranges)
