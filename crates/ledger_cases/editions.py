@@ -95,7 +95,9 @@ def flags_of(chain: str, rules: int) -> str:
     nonces: set[str] = set()
     flags: list[str] = []
     for number, text in enumerate(chain.split(" / "), 1):
-        before, written, found = dict(state), set[bytes](), []
+        before = dict(state)
+        written: set[bytes] = set()
+        found: list[str] = []
         for place, words in enumerate(text.split(" | ")):
             tx = transaction_of(words)
             flag = flag_of(tx, rules, before, state, written, nonces)
