@@ -10,6 +10,8 @@ import pathlib
 import sys
 from collections.abc import Callable
 
+import editions
+
 HERE = pathlib.Path(__file__).parent
 sys.path.insert(0, str(HERE.resolve().parents[1] / "python"))
 import rfc8032
@@ -313,6 +315,11 @@ def begins() -> list[Row]:
     return rows + [(line(amend, without), "bad line") for without in amend]
 
 
+def own_simulations() -> list[Row]:
+    call = f"simulate kv 71 {PUTS} | "
+    return [(call, "kv() r:0x006b76@- w:a=1"), (f"under 2 {call}", "kv() r:0x006b76@-")]
+
+
 def modules() -> list[Row]:
     digest = hashlib.sha256(bytes.fromhex(SEVEN)).hexdigest()
     entry = f'{{"module":"{SEVEN}","profile":1}}'
@@ -399,7 +406,7 @@ def bound_tags() -> list[Row]:
         (f"A,B! A!C,B!B {both} | {stands(own_a, kept_b)}", True),
         (f"A,B! A@C,B@B {both} | {stands(own_a, kept_b)}", False),
     ]
-    rows = [(f"endorsed2 {case}", endorsed) for case, endorsed in second] + [(f"endorsed {case}", endorsed) for case, endorsed in first]
+    rows = [(f"under 2 endorsed {case}", endorsed) for case, endorsed in second] + [(f"endorsed {case}", endorsed) for case, endorsed in first]
     return [(case, "true" if endorsed else "false") for case, endorsed in rows]
 
 
@@ -419,6 +426,11 @@ GROUPS: list[tuple[str, Callable[[], list[Row]]]] = [
     ("# json_genesis: a modules file: 0 to 64 modules, and what is refused", modules),
     ("# org_keys: what is signed for one ledger alone has in front the byte ff, `tag ` and the digest; signatures by the program of RFC 8032", bound_bytes),
     ("# endorsement_policy: under rules 2 public keys, be they listed, kept or members' own, are of one ledger alone; under rules 1 no key is", bound_tags),
+    ("# mvcc_validate: under rules 2 no read is current of a key that a VALID transaction of the same block wrote, and a range is as it was"
+     " before the block too", editions.versions),
+    ("# host_api: under rules 2 chaincode writes and deletes keys that begin with its name and / alone (-2)", editions.own_keys),
+    ("# simulator: under rules 2 a put of another key is left out", own_simulations),
+    ("# endorsement_policy: under rules 2 a call that claims a write or a delete of another key is not endorsed", editions.claims),
 ]
 
 

@@ -265,11 +265,11 @@ honest_at exec alone listed carries seeds capacity w es replies new steps n =
       handed = all_handed exec (right_of listed) replies chain given [] chain;
       serial = λ genuine.
           let handed = all_handed exec (right_of listed) replies chain given [] chain genuine in
-          let now = judged_current id_of endorsed chain flags in
+          let now = judged_current listed.edition id_of endorsed chain flags in
           let both = reruns_and_map exec chain alone now handed in
           record { agree = both.0; same = reruns_same exec chain alone now handed; map = both.1 };
       genuine = λ unforged.
-          let all = judged_endorsed id_of endorsed [] chain flags in
+          let all = judged_endorsed listed.edition id_of endorsed [] chain flags in
           all_genuine listed replies [] chain carries all unforged;
     }
 

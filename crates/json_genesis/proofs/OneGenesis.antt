@@ -34,9 +34,10 @@ same_fields ledger held p a b h k =
     let those = names_of a.rules.value.orgs in
     let peers = subst (λ ns. IsListOf (IsPeer ns) 1 8 p.peers b.peers.items) names k.peers in
     let upgrade = subst (λ ns. IsPolicy ns p.upgrade b.rules.value.upgrade) names k.upgrade in
-    let book = subst (λ os. IsBookOf os held p.chaincodes p.modules b.book.value b.rules.value.policies) (sym orgs) k.book in
-    let one = one_book a.rules.value.orgs held p.chaincodes p.modules _ _ _ _ h.book book in
     let edition = one_edition p.rules _ _ h.edition k.edition in
+    let book = subst (λ os. IsBookOf a.rules.value.edition os held p.chaincodes p.modules b.book.value b.rules.value.policies) (sym orgs)
+    (subst (λ e. IsBookOf e b.rules.value.orgs held p.chaincodes p.modules b.book.value b.rules.value.policies) (sym edition) k.book) in
+    let one = one_book a.rules.value.edition a.rules.value.orgs held p.chaincodes p.modules _ _ _ _ h.book book in
     let installed = h.installed ∙ ap (λ x. x.installed) one.0 ∙ sym k.installed in
     let truth : boolean a.reorder ≡ boolean b.reorder = sym h.reorder ∙ k.reorder in
     record {

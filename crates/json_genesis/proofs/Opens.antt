@@ -1,10 +1,11 @@
 -- What a genesis file spells can open a system.
-use Rattle.std.proofs.Common.{◌≡◌, ℕ, suc, true, List, [], ◌∷◌, map, length, refl, ap}
+use Rattle.std.proofs.Common.{◌≡◌, ℕ, suc, true, List, [], ◌∷◌, map, length, refl, sym, ap}
 use Rattle.std.specs.List.{list_all}
 use Rattle.serde_json.specs.Data.{Data, Items, no_items, item}
 use Rattle.json_fields.specs.Lists.{AreItems}
 use Rattle.policy_language.specs.GoodSets.{is_among, needs_someone}
 use Rattle.endorsement_policy.specs.declared.rules.ChaincodePolicy.{ChaincodePolicy}
+use Rattle.chaincode_book.specs.Books.{Book}
 use Rattle.chaincode_book.specs.declared.book.Chaincode.{Chaincode}
 use Rattle.sha2.specs.Sha256.{sha256}
 use Rattle.chaincode_book.specs.declared.book.Held.{Held}
@@ -62,6 +63,7 @@ opens ledger held p g h =
       known = known_peers _ h.peers.0 g.peers.items h.peers.2;
       chaincodes = rw (b.5, same_count cs) b.2.3;
       policies = rw (b.5, b.6) names;
+      edition = sym (ap (λ (k : Book). k.edition) b.5);
       installed = h.installed;
     }
 

@@ -94,31 +94,30 @@ one_definition orgs d x y h k =
     let policy = same orgs k.2 _ _ (subst (λ t. IsText orgs x.policy.policy t) text h.9) k.9 in
     same_definition x y (same_chaincode _ _ name one.0 fuel) one.1 (same_policy _ _ (h.10 ∙ name ∙ sym k.10) policy)
 
-same_book : (orgs : List Organisation) (held : List Held) (d e : Data) (cs cs' : List Definition) (ms ms' : List Held)
+same_book : (edition : Edition) (orgs : List Organisation) (held : List Held) (d e : Data) (cs cs' : List Definition) (ms ms' : List Held)
     → IsListOf (IsDefinition (names_of orgs)) 1 16 d cs → IsListOf (IsDefinition (names_of orgs)) 1 16 d cs' → IsListOf IsInstalled 0 16 e ms
     → IsListOf IsInstalled 0 16 e ms'
-    → book_of orgs held cs ms ≡ book_of orgs held cs' ms'
-same_book orgs held d e cs cs' ms ms' c c' m m' =
-    ap (λ x. book_of orgs held x ms) (IsListOf-same (IsDefinition (names_of orgs)) (one_definition (names_of orgs)) 1 16 d cs cs' c c') ∙
-    ap (λ x. book_of orgs held cs' x) (IsListOf-same IsInstalled one_installed 0 16 e ms ms' m m')
+    → book_of edition orgs held cs ms ≡ book_of edition orgs held cs' ms'
+same_book edition orgs held d e cs cs' ms ms' c c' m m' =
+    ap (λ x. book_of edition orgs held x ms) (IsListOf-same (IsDefinition (names_of orgs)) (one_definition (names_of orgs)) 1 16 d cs cs' c c') ∙
+    ap (λ x. book_of edition orgs held cs' x) (IsListOf-same IsInstalled one_installed 0 16 e ms ms' m m')
 
-pub one_book : (orgs : List Organisation) (held : List Held) (d e : Data) (a b : Book) (ps qs : List ChaincodePolicy) → IsBookOf orgs held d e a ps
-    → IsBookOf orgs held d e b qs
-    → (a ≡ b) × (ps ≡ qs)
-one_book orgs held d e a b ps qs h k = (
-  h.5 ∙ same_book orgs held d e _ _ _ _ h.2 k.2 h.3 k.3 ∙ sym k.5,
+pub one_book : (edition : Edition) (orgs : List Organisation) (held : List Held) (d e : Data) (a b : Book) (ps qs : List ChaincodePolicy)
+    → IsBookOf edition orgs held d e a ps → IsBookOf edition orgs held d e b qs → (a ≡ b) × (ps ≡ qs)
+one_book edition orgs held d e a b ps qs h k = (
+  h.5 ∙ same_book edition orgs held d e _ _ _ _ h.2 k.2 h.3 k.3 ∙ sym k.5,
   h.6 ∙ ap policies_of (IsListOf-same (IsDefinition (names_of orgs)) (one_definition (names_of orgs)) 1 16 d _ _ h.2 k.2) ∙ sym k.6,
 )
 
 -- ---- a part that is refused
 
 -- chaincodes and modules that make no book
-pub NoneIs-book : (orgs : List Organisation) (held : List Held) (d e : Data) (cs : List Definition) (ms : List Held)
+pub NoneIs-book : (edition : Edition) (orgs : List Organisation) (held : List Held) (d e : Data) (cs : List Definition) (ms : List Held)
     → IsListOf (IsDefinition (names_of orgs)) 1 16 d cs
-    → IsListOf IsInstalled 0 16 e ms → ¬ IsBook (book_of orgs held cs ms)
-    → (b : Book × List ChaincodePolicy) → ¬ IsBookOf orgs held d e b.0 b.1
-NoneIs-book orgs held d e cs ms c m not b spelled =
-    not (subst IsBook (spelled.5 ∙ same_book orgs held d e _ cs _ ms spelled.2 c spelled.3 m) spelled.4)
+    → IsListOf IsInstalled 0 16 e ms → ¬ IsBook (book_of edition orgs held cs ms)
+    → (b : Book × List ChaincodePolicy) → ¬ IsBookOf edition orgs held d e b.0 b.1
+NoneIs-book edition orgs held d e cs ms c m not b spelled =
+    not (subst IsBook (spelled.5 ∙ same_book edition orgs held d e _ cs _ ms spelled.2 c spelled.3 m) spelled.4)
 
 -- two organisations of one name, or of one public key
 pub NoneIs-different : (of : List Organisation → List (List ℕ)) (edition : Edition) (ledger : List ℕ) (d : Data) (os : List Organisation)

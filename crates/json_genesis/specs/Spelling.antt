@@ -138,9 +138,11 @@ more_modules_of ms = map (λ (m : Held). m.«module») ms
 abbrev pub more_ids_of : List Held → List ModuleId
 more_ids_of ms = map (λ (m : Held). m.id) ms
 
--- the book of these chaincodes and more modules, where policies name these organisations and the first modules are at hand beside them
-abbrev pub book_of : List Organisation → List Held → List Definition → List Held → Book
-book_of orgs held cs ms = record {
+-- the book by this edition of these chaincodes and more modules, where policies name these organisations and the first modules are at hand beside
+-- them
+abbrev pub book_of : Edition → List Organisation → List Held → List Definition → List Held → Book
+book_of edition orgs held cs ms = record {
+  edition = edition;
   chaincodes = chaincodes_of cs;
   modules = more_modules_of ms;
   installed = record { modules = ids_of cs ++ more_ids_of ms; orgs = orgs };
@@ -148,11 +150,11 @@ book_of orgs held cs ms = record {
 }
 
 -- the book that the fields "chaincodes" and "modules" spell, with these modules at hand, and the policies of its chaincodes
-abbrev pub IsBookOf : List Organisation → List Held → Data → Data → Book → List ChaincodePolicy → Type 0
-IsBookOf orgs held chaincodes modules book policies =
+abbrev pub IsBookOf : Edition → List Organisation → List Held → Data → Data → Book → List ChaincodePolicy → Type 0
+IsBookOf edition orgs held chaincodes modules book policies =
     (cs : List Definition) × (ms : List Held)
     × IsListOf (IsDefinition (names_of orgs)) 1 16 chaincodes cs × IsListOf IsInstalled 0 16 modules ms
-    × IsBook book × (book ≡ book_of orgs held cs ms) × (policies ≡ policies_of cs)
+    × IsBook book × (book ≡ book_of edition orgs held cs ms) × (policies ≡ policies_of cs)
 
 -- 1 or 2: the number of this edition. The first edition where there is no number
 abbrev pub IsEdition : Option Data → Edition → Type 0
@@ -199,7 +201,7 @@ pub record IsGenesis (ledger : List ℕ) (held : List Held) (p : Parts) (g : Gen
   pub digest : g.rules.value.ledger ≡ ledger
   pub organisations : AreOrganisations g.rules.value.edition ledger p.orgs g.rules.value.orgs
   pub peers : IsListOf (IsPeer (names_of g.rules.value.orgs)) 1 8 p.peers g.peers.items
-  pub book : IsBookOf g.rules.value.orgs held p.chaincodes p.modules g.book.value g.rules.value.policies
+  pub book : IsBookOf g.rules.value.edition g.rules.value.orgs held p.chaincodes p.modules g.book.value g.rules.value.policies
   pub upgrade : IsPolicy (names_of g.rules.value.orgs) p.upgrade g.rules.value.upgrade
   pub installed : g.rules.value.installed ≡ g.book.value.installed
   pub signers : g.signers.value ≡ []

@@ -181,6 +181,7 @@ fn genesis_with(
     } = setting;
     let (book, policies) = book(
         alloc,
+        edition,
         fields.chaincodes,
         fields.modules,
         organisations,

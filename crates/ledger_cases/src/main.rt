@@ -43,8 +43,7 @@
 //!   a ledger of 32 bytes 08. The text is the policy of calls and of upgrades, and of modules one
 //!   is installed, of profile 1, whose digest has the byte 7. The envelope's transaction calls `kv`
 //!   and reads its definition as absent; ` | WORDS` behind the text is another one, and ` / CHAIN`
-//!   behind these a chain by whose state it is judged. `endorsed2 ..` is the same under rules 2, in
-//!   the ledger of cases.
+//!   behind these a chain by whose state it is judged.
 //!
 //! `event TEXT` tells what a line of an events file asks for, with bytes in hex and `-` for none,
 //! `genesis TEXT` what the genesis has that the text spells, or why it spells none, and
@@ -65,14 +64,16 @@
 //! - `flags CHAIN`: the flags of each block, each judged after those before it;
 //! - `state CHAIN`, `get KEY CHAIN`, `range START..END*LIMIT CHAIN`: the state after the chain so
 //!   judged, what it has at a key, and its first entries of a range;
-//! - `call STATE | ARGUMENT | MEMORY | CALL | ..`: what the host answers to each call on the state
-//!   that the writes leave, the memory after them, where it changed, and what was recorded. The
+//! - `call STATE | ARGUMENT | MEMORY | CALL | ..`: what the host answers to each call of `kv` on the
+//!   state that the writes leave, the memory after them, where it changed, and what was recorded. The
 //!   argument and the memory are in hex, and a call is its name and its numbers;
 //! - `simulate NAME FUEL HEX | ARGUMENT | ..`: the payload or the refusal of each call of `kv` by
 //!   the book that has the module of profile 1 under a name, on the state that the earlier calls
 //!   leave; `simulate2 ..` the same of profile 2. What begins with such a word and a colon is an
 //!   upgrade or an amendment, as above: the module's digest has the byte 7, and `A` is an
 //!   organisation.
+//!
+//! `under 2` in front of `endorsed` and of these verbs asks for their answer under rules 2.
 #![tactic(auto)]
 
 mod bytes;

@@ -62,13 +62,13 @@ fn case_of(rest: &str) -> Case<'_> {
 /// the state after the chain, which may be empty.
 pub fn show_endorsed(
     alloc: Global,
-    snapshot: &mut Snapshot,
     edition: Edition,
+    snapshot: &mut Snapshot,
     rest: &str,
 ) -> Result<String, CaseFault> {
     let case = case_of(rest);
     if !case.chain.is_empty() {
-        judge_chain(alloc, snapshot, case.chain)?;
+        judge_chain(alloc, edition, snapshot, case.chain)?;
     }
     let endorsed = is_endorsed(
         alloc,

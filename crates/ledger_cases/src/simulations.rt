@@ -19,21 +19,27 @@ use world_state::Snapshot;
 /// The payload or the refusal of each call of a module of a profile.
 pub fn simulate_calls(
     alloc: Global,
+    edition: Edition,
     snapshot: &mut Snapshot,
     text: &str,
     profile: Profile,
 ) -> Result<String, CaseFault> {
     let (head, calls) = text.split_once(" |").ok_or(CaseFault::BadLine)?;
-    let book = book_of(alloc, head, profile)?;
+    let book = book_of(alloc, edition, head, profile)?;
     call_each(alloc, &book, snapshot, calls)
 }
 
 /// The book that has the module of a profile under a name, by `NAME FUEL MODULE`.
-fn book_of(alloc: Global, head: &str, profile: Profile) -> Result<Book, CaseFault> {
+fn book_of(
+    alloc: Global,
+    edition: Edition,
+    head: &str,
+    profile: Profile,
+) -> Result<Book, CaseFault> {
     let installed = installed(alloc, profile)?;
     let chaincodes = chaincodes_of(alloc, head, profile)?;
     let (modules, held) = (Vec::new(alloc), Vec::new(alloc));
-    Book::new(chaincodes, modules, installed, held).ok_or(CaseFault::BadLine)
+    Book::new(edition, chaincodes, modules, installed, held).ok_or(CaseFault::BadLine)
 }
 
 /// The one chaincode of the book.

@@ -206,7 +206,7 @@ onto_older s before (b ∷ blocks) are old =
     let next : Committed = record { block = b; flags = judge (rule ts) ts (length before + 1) 0 b.envelopes } in
     let endorsed : Envelope → Bool = λ e. is_endorsed s.listed (state ts) e in
     onto_older s (before ++ next ∷ []) blocks are.1
-    (older_more before next old (block_legal id_of endorsed ts (length before + 1) b.envelopes are.0))
+    (older_more before next old (block_legal s.listed.edition id_of endorsed ts (length before + 1) b.envelopes are.0))
 
 none_older : ConflictsAreOlder []
 none_older k c there = none_among c (k, there)

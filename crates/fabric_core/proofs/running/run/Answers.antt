@@ -94,7 +94,7 @@ returns-clause-conflicts c on peer chain is =
     let ran = c.loop-event-test.ran in
     let r = rules_of (exec_of genesis.book.value) genesis.rules.value genesis.signers.value genesis.queue in
     let endorsed : List Placed → Envelope → Bool = λ before. is_endorsed genesis.rules.value (state before) in
-    older_run id_of endorsed r genesis.peers.items genesis.seats (limits_of genesis) genesis.reorder c.args.events.now
+    older_run genesis.rules.value.edition id_of endorsed r genesis.peers.items genesis.seats (limits_of genesis) genesis.reorder c.args.events.now
     ran.replies.items ran.system.world ran.refused refl (returns-clause-run c) on peer chain is
 
 pub returns-clause-fits : goal.returns-clause-fits

@@ -1,9 +1,10 @@
-use Rattle.std.proofs.Common.{ap, refl, sym, ◌∙◌, true≢false}
+use Rattle.std.proofs.Common.{ap, refl, subst, sym, ◌∙◌, true≢false}
 use Rattle.std.proofs.lemmas.Result.{err_from_is_err_and}
 use Rattle.chaincode_book.specs.Books.{Book}
 use Rattle.endorsement_policy.specs.Installed.{Installed}
 use Rattle.json_genesis.specs.Fields.{parts_of}
 use Rattle.json_genesis.specs.Spelling.{IsBookOf}
+use Rattle.json_genesis.proofs.Editions.{one_edition}
 use Rattle.json_genesis.proofs.NamedKeys.{keys_of}
 use Rattle.json_genesis.proofs.Opens.{all_needed, policy_needed}
 use Rattle.json_genesis.proofs.Whole.{NoneIs-of}
@@ -17,8 +18,10 @@ returns-in_err-book-clause-refused c =
     let p = err_from_is_err_and c.from_residual.result c.from_residual.ensures.1 in
     let parts = parts_of c.args.fields.now in
     rw (p.1, p.2)
-    (NoneIs-of (λ orgs b. IsBookOf orgs c.args.held.items parts.chaincodes parts.modules b.0 b.1) (λ g. (g.book.value, g.rules.value.policies))
-    _ _ _ _ _ _ (λ g h. h.book)
+    (NoneIs-of (λ orgs b. IsBookOf c.args.setting.edition orgs c.args.held.items parts.chaincodes parts.modules b.0 b.1)
+    (λ g. (g.book.value, g.rules.value.policies)) _ _ _ _ _ _
+    (λ g h. subst (λ e. IsBookOf e g.rules.value.orgs c.args.held.items parts.chaincodes parts.modules g.book.value g.rules.value.policies)
+    (one_edition parts.rules _ _ h.edition c.requires.spelled.edition) h.book)
     c.requires.spelled.edition c.requires.spelled.organisations c.in_err-book.ensures.refused)
 
 pub returns-in_default-clause-refused : goal.returns-in_default-clause-refused
