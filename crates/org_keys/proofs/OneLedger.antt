@@ -46,7 +46,7 @@ of_no_ledger ledger first second other same = other ((codes "tag " ++ ledger) ++
 
 twice : (one other signature : List ℕ) → Verified one signature → Verified other signature → one ≢ other → VerifiesTwice signature
 twice one other signature h k apart =
-    record { key = h.0; other_key = k.0; message = one; other = other; differ = apart; right = h.1; right_too = k.1 }
+    record { point = h.0; other_point = k.0; message = one; other = other; differ = apart; right = h.1; right_too = k.1 }
 
 -- the second ledger may be one of rules 1, where its bytes do not begin with ff
 pub of_one_ledger : (edition : Edition) (one other : List ℕ) (a b : OrgKey) (first second signature : List ℕ) → length one ≡ 32 → length other ≡ 32 →
