@@ -1,7 +1,7 @@
 -- Each key of who stands is one of the ledger, so a signature that is right in a ledger of rules 2 is right in no other.
 use Rattle.std.proofs.Common.{◌≡◌, ◌≢◌, ℕ, true, ◌&&◌, List, [], ◌∷◌, map, length, Option, Some, None, refl, sym, ap₂, subst}
 use Rattle.std.specs.FinMap.{get}
-use Rattle.std.specs.List.{find, list_all}
+use Rattle.std.specs.List.{find}
 use Rattle.std.proofs.lemmas.Option.{same_Some}
 use Rattle.std.proofs.lemmas.Slice.Eq.{bytes_eq-Decides}
 use Rattle.grammar.specs.Laws.Steps.{guarded}

@@ -103,11 +103,7 @@ fn org_of(alloc: Global, rules: &Rules, name: &OrgName) -> Result<Value, AllocEr
 }
 
 /// A name, with this public key, if there is one.
-fn keyed(
-    alloc: Global,
-    name: &OrgName,
-    public: Option<&PublicKey>,
-) -> Result<Value, AllocError>
+fn keyed(alloc: Global, name: &OrgName, public: Option<&PublicKey>) -> Result<Value, AllocError>
     ensures { IfOk result
         (λ v. view v ≡ named_json name.now (option_map (λ k. k.now) public.entry)) }
 {

@@ -85,12 +85,7 @@ fn policy_of(alloc: Global, known: &str, text: &str) -> Result<Policy, CaseFault
 }
 
 /// The organisations with their keys, the policy of calls and of upgrades, and a module.
-fn rules_of(
-    alloc: Global,
-    edition: Edition,
-    known: &str,
-    text: &str,
-) -> Result<Rules, CaseFault> {
+fn rules_of(alloc: Global, edition: Edition, known: &str, text: &str) -> Result<Rules, CaseFault> {
     let installed = installed(alloc, edition, known)?;
     let policies = policies_of(alloc, known, text)?;
     let upgrade = policy_of(alloc, known, text)?;

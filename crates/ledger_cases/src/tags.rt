@@ -107,7 +107,10 @@ fn endorsement_of(bytes: &[u8], word: &str) -> Result<Endorsement, CaseFault> {
     } else if let Some((name, signer)) = word.split_once('@') {
         (name, Tag::Ed25519(signed_for(&LEDGER, signer, bytes)?))
     } else if let Some((name, signer)) = word.split_once('*') {
-        (name, Tag::Ed25519(signed_for(&OTHER_LEDGER, signer, bytes)?))
+        (
+            name,
+            Tag::Ed25519(signed_for(&OTHER_LEDGER, signer, bytes)?),
+        )
     } else if let Some((name, signer)) = word.split_once('~') {
         (name, Tag::Ed25519(turned(sign(&seed_of(signer)?, bytes))))
     } else {

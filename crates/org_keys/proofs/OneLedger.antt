@@ -1,5 +1,5 @@
 -- A signature that is right in a ledger of rules 2 is right in no other, but where it verifies for two messages that differ.
-use Rattle.std.proofs.Common.{◌≡◌, ◌≢◌, ℕ, List, ◌∷◌, ◌++◌, true, false, length, take, drop, codes, bytes_eq, sym, ap, subst, ◌∙◌, arith}
+use Rattle.std.proofs.Common.{◌≡◌, ◌≢◌, ℕ, List, ◌∷◌, ◌++◌, true, false, length, take, drop, codes, sym, ap, subst, ◌∙◌, arith}
 use Rattle.std.proofs.lemmas.List.{take_all, take-append-le}
 use Rattle.std.proofs.lemmas.Slice.Eq.{bytes_eq-Decides}
 use Rattle.fab_types.specs.declared.edition.Edition.{Edition}
@@ -46,7 +46,7 @@ of_no_ledger ledger first second other same = other ((codes "tag " ++ ledger) ++
 
 twice : (one other signature : List ℕ) → Verified one signature → Verified other signature → one ≢ other → VerifiesTwice signature
 twice one other signature h k apart =
-    record { key = h.0; other_key = k.0; message = one; other = other; differ = apart; right = h.1; right_too = k.1 }
+    record { point = h.0; other_point = k.0; message = one; other = other; differ = apart; right = h.1; right_too = k.1 }
 
 -- the second ledger may be one of rules 1, where its bytes do not begin with ff
 pub of_one_ledger : (edition : Edition) (one other : List ℕ) (a b : OrgKey) (first second signature : List ℕ) → length one ≡ 32 → length other ≡ 32 →

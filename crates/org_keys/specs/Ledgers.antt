@@ -45,10 +45,10 @@ are_keys_of edition ledger os = list_all (λ o. is_key_of edition ledger o.key) 
 
 -- a signature verifies for two messages that differ, each under some public key
 pub record VerifiesTwice (signature : List ℕ) : Type 0 where
-  pub key : List ℕ
-  pub other_key : List ℕ
+  pub point : List ℕ
+  pub other_point : List ℕ
   pub message : List ℕ
   pub other : List ℕ
   pub differ : message ≢ other
-  pub right : verifies key message signature ≡ true
-  pub right_too : verifies other_key other signature ≡ true
+  pub right : verifies point message signature ≡ true
+  pub right_too : verifies other_point other signature ≡ true
