@@ -1,5 +1,5 @@
 -- Under rules 2 a VALID transaction read nothing that its own block wrote.
-use Rattle.std.proofs.Common.{◌≡◌, Bool, true, false, cond, not, ◌&&◌, ◌||◌, List, [], ◌∷◌, ◌++◌, Option, Some, None, refl, sym, ap, ◌∙◌, subst}
+use Rattle.std.proofs.Common.{◌≡◌, Bool, true, false, cond, not, ◌||◌, List, [], ◌∷◌, ◌++◌, Option, Some, None, refl, sym, ap, ◌∙◌, subst}
 use Rattle.std.proofs.Common.{append_assoc, append-nil, is_some, option_map}
 use Rattle.std.proofs.Math.Seq.{drop-append_seam}
 use Rattle.std.specs.Option.{option_or}
@@ -15,7 +15,7 @@ use Rattle.fab_types.specs.Payloads.{Payload}
 use Rattle.ledger_model.specs.Chain.{Bytes, Version, Envelope, Valid, Chain, Placed, history, is_valid}
 use Rattle.ledger_model.specs.Views.{key_cmp}
 use Rattle.ledger_model.specs.State.{last_write, state, write_of, write_to}
-use Rattle.ledger_model.specs.Flags.{is_unwritten, reads_current, reads_settled, since}
+use Rattle.ledger_model.specs.Flags.{is_unwritten, reads_settled}
 use Rattle.ledger_model.specs.Judged.{AreFlagsBy, HasFlagsBy, block_of, by_table, table}
 use Rattle.ledger_model.specs.Settled.{AllSettled, AreSettled, IsSettled, reads_write_of}
 use Rattle.ledger_model.proofs.Checks.{and_parts, settled_line, valid_line}

@@ -5,7 +5,7 @@ use Rattle.std.proofs.Math.Seq.{drop-length}
 use Rattle.std.proofs.lemmas.List.{drop-append-le}
 use Rattle.std.specs.Option.{option_or}
 use Rattle.std.specs.Ordering.{eq_by_cmp}
-use Rattle.std.specs.FinMap.{get, get-empty, get-from_entries, insert, get-insert}
+use Rattle.std.specs.FinMap.{get, get-from_entries, insert, get-insert}
 use Rattle.fab_types.specs.declared.items.WriteItem.{WriteItem}
 use Rattle.ledger_model.specs.Chain.{Bytes, Version, Placed, is_valid}
 use Rattle.ledger_model.specs.Views.{key_cmp, Versioned}
