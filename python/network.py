@@ -14,11 +14,13 @@ from typing import Any
 from program import find
 
 # The fields of the file, and those of its modules.
-FIELDS = ("orgs", "peers", "seats", "queue", "count", "preferred", "absolute", "reorder", "chaincodes", "modules", "upgrade")
+FIELDS = ("orgs", "peers", "seats", "queue", "count", "preferred", "absolute", "reorder", "rules", "chaincodes", "modules", "upgrade")
 MODULE_FIELDS = ("module", "profile")
 # The greatest number that each of these may be, and what it is where it is left out. The least is 1.
 NUMBERS = {"seats": (64, 4), "queue": (4096, 64), "count": (512, 512), "preferred": (524288, 65536), "absolute": (524288, 524288)}
 MOST_FUEL, USUAL_FUEL = 10000000, 100000
+# The newest rules of a ledger. Rules 1 are those of a genesis file without the field.
+NEWEST_RULES = 2
 # The profiles of modules, and what an open definition has more than its profile.
 PROFILES, USUAL_PROFILE, OPEN = (1, 2), 1, 16
 MOST_PEERS, MOST_MODULES = 8, 16
@@ -215,11 +217,18 @@ def described(network: Table) -> tuple[list[dict[str, str]], Object]:
         "peers": peers(network, [it["name"] for it in orgs]),
         **{name: network.number(name, most, usual) for name, (most, usual) in NUMBERS.items()},
         "reorder": network.truth("reorder"),
+        **rules(network),
         "chaincodes": [chaincode(name, table) for name, table in network.tables(CHAINCODES).items()],
         "modules": [module(it) for it in more_modules(network)],
         "upgrade": network.text("upgrade", "the policy for upgrades"),
     }
     return orgs, rest
+
+
+def rules(network: Table) -> Object:
+    """The field of the ledger's rules, which rules 1 do without."""
+    number = network.number("rules", NEWEST_RULES, NEWEST_RULES)
+    return {"rules": number} if number > 1 else {}
 
 
 def organisation(name: str, table: Table) -> dict[str, str]:

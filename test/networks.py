@@ -21,7 +21,7 @@ policy = "'A'"
 TOP, KEY, FILE, POLICY = SMALL.splitlines()[0], 'A.key = "4a65"', 'module = "kv.wasm"', "policy = \"'A'\""
 # A field that may be left out, what it is then, and another value; in the table that stands last, of the chaincode, or above.
 USUAL = [("peers", ["A"], ["A", "A"]), ("seats", 4, 64), ("queue", 64, 4096), ("count", 512, 1), ("preferred", 65536, 524288),
-         ("absolute", 524288, 1), ("reorder", False, True), ("modules", [], None)]
+         ("absolute", 524288, 1), ("reorder", False, True), ("rules", 2, None), ("modules", [], None)]
 USUAL_OF_A_CHAINCODE = [("profile", 1, 2), ("fuel", 100000, 10000000)]
 # A point of small order, and what is no point.
 SMALL_ORDER, NO_POINT = "01" + 31 * "00", "02" + 31 * "00"
@@ -46,6 +46,9 @@ MISTAKES = [
     (TOP, TOP + "\npreferred = 1.0", "preferred has to be a whole number from 1 to 524288"),
     (TOP, TOP + "\nabsolute = -1", "absolute has to be a whole number from 1 to 524288"),
     (TOP, TOP + "\nreorder = 1", "reorder has to be true or false"),
+    (TOP, TOP + "\nrules = 0", "rules has to be a whole number from 1 to 2; left out, it is 2"),
+    (TOP, TOP + "\nrules = 3", "rules has to be a whole number from 1 to 2; left out, it is 2"),
+    (TOP, TOP + "\nrules = true", "rules has to be a whole number from 1 to 2; left out, it is 2"),
     (TOP, TOP + "\npeers = []", "peers has to list 1 to 8 names"),
     (TOP, TOP + '\npeers = "A"', "peers has to list 1 to 8 names"),
     (TOP, TOP + '\npeers = ["A", "B"]', "peers has B, which is none of [orgs]: A"),
@@ -178,6 +181,8 @@ def try_fields(at: Networks) -> None:
         for value in (usual, other) if other is not None else (usual,):
             made = at.made(f"{name} {value}", f"{name} = {json.dumps(value)}\n{SMALL}")
             at.report.case(f"{name} is {value}", made == small(module, **{name: value}), str(made))
+    first = {name: value for name, value in small(module).items() if name != "rules"}
+    at.report.case("rules 1 have no field", at.made("rules 1", f"rules = 1\n{SMALL}") == first)
     for name, usual, other in USUAL_OF_A_CHAINCODE:
         for value in (usual, other):
             made = at.made(f"{name} {value}", f"{SMALL}{name} = {value}\n")

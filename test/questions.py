@@ -22,7 +22,7 @@ CHAINS, ROUNDS = 3, 2
 SECONDS = 120
 # Lines that spell no question.
 BAD = [
-    "", "{}", "[]", '{"ask":"none"}', '{"ask":"block"}', '{"ask":"block","number":0}', '{"ask":"block","number":65536}',
+    "", "{}", "[]", '{"ask":"none"}', '{"ask":"block"}', '{"ask":"block","number":0}', '{"ask":"block","number":4000000001}',
     '{"ask":"block","number":1,"more":1}', '{"ask":"get","key":""}',
     '{"ask":"get","key":"0"}', '{"ask":"get","key":"' + "00" * 65 + '"}', '{"ask":"transaction","id":"00"}',
     '{"ask":"history","key":"61","from":1}', '{"ask":"history","key":"61","blocks":1}',

@@ -22,6 +22,8 @@ UNENDORSED_BY = {"older.store", "names.json"}
 # Its chaincode reads, and those of the other genesis files only put.
 REREAD = "get.json"
 PUTS = hashlib.sha256(bytes.fromhex(json.loads((DATA / "put.json").read_text())["chaincodes"][0]["module"])).hexdigest()
+# The greatest number that a block can have.
+LAST_BLOCK = 4_000_000_000
 # The first byte of a proposal that is an amendment, and what the first byte of a definition that is open has more.
 AMENDMENT, OPEN = 0x80, 16
 # How many bytes of a record stand before its block and behind its flags.
@@ -111,10 +113,20 @@ class Bytes:
         return tx
 
 
+def read_genesis(text: bytes) -> dict:
+    """A genesis file, with its SHA-256."""
+    return {"rules": 1, **json.loads(text), "digest": hashlib.sha256(text).hexdigest()}
+
+
+def front_of(genesis: dict) -> bytes:
+    """What stands in front of what is signed in the ledger of a genesis file."""
+    return b"\xfftag " + bytes.fromhex(genesis["digest"]) if genesis["rules"] > 1 else b""
+
+
 def is_right(org: dict, payload: bytes, tag: bytes) -> bool:
-    """Whether a tag is right under the key of an organisation, as a genesis file lists it."""
+    """Whether a tag is right under the key of an organisation, as a genesis file lists it, with the front of what is signed."""
     if "public" in org:
-        return len(tag) == 64 and rfc8032.verify(bytes.fromhex(org["public"]), payload, tag)
+        return len(tag) == 64 and rfc8032.verify(bytes.fromhex(org["public"]), org["front"] + payload, tag)
     return hmac.digest(bytes.fromhex(org["key"]), payload, "sha256") == tag
 
 
@@ -160,12 +172,13 @@ def amended(blocks: list[dict]) -> dict | None:
     return txs[-1]["amend"] if txs else None
 
 
-def keys_behind(blocks: list[dict], listed: dict[str, dict]) -> dict[str, dict]:
-    """The keys of who stands behind blocks, as a genesis file lists them: a member without a key of its own keeps its key."""
+def keys_behind(blocks: list[dict], listed: dict[str, dict], front: bytes) -> dict[str, dict]:
+    """The keys of who stands behind blocks, as a genesis file lists them, with the front of what is signed under them: a member
+    without a key of its own keeps its key."""
     membership = amended(blocks)
-    if membership is None:
-        return listed
-    return {it["name"]: it if "public" in it else listed[it["name"]] for it in membership["members"]}
+    members = listed.values() if membership is None else membership["members"]
+    keys = {it["name"]: it if "public" in it else listed[it["name"]] for it in members}
+    return {name: {**it, "front": front} for name, it in keys.items()}
 
 
 def lacks_module(tx: dict, at_hand: Modules) -> bool:
@@ -183,13 +196,14 @@ def rerun_of(blocks: list[dict], genesis_name: str, store_name: str, at_hand: Mo
     return "differs 1.0" if genesis_name == REREAD and store_name == "whole.store" else "agrees"
 
 
-def chain_of(store: bytes, genesis_name: str, store_name: str, listed: dict[str, dict], at_hand: Modules) -> tuple[list[dict], dict]:
+def chain_of(store: bytes, genesis_name: str, store_name: str, genesis: dict, at_hand: Modules) -> tuple[list[dict], dict]:
     """The blocks of a store that fit, and what is found of it."""
+    listed, front = {it["name"]: it for it in genesis["orgs"]}, front_of(genesis)
     stored, end = records(store)
     blocks: list[dict] = []
     link, audit = bytes(32).hex(), ""
     for record in stored:
-        block, is_whole, flags = block_of(record, keys_behind(blocks, listed))
+        block, is_whole, flags = block_of(record, keys_behind(blocks, listed, front))
         if block["previous"] != link or not is_whole:
             audit = audit or ("refused 602" if block["previous"] != link else "refused 603")
             break
@@ -217,10 +231,11 @@ def setting_of(genesis: dict) -> dict:
         for it in genesis["chaincodes"]
     ]
     limits = {name: genesis[name] for name in ("peers", "count", "preferred", "absolute", "reorder")}
+    rules = {"rules": genesis["rules"], "digest": genesis["digest"]} if genesis["rules"] > 1 else {}
     modules = [installed(it) for it in [*genesis["chaincodes"], *genesis["modules"]]]
     orgs = [{"name": it["name"], "public": it["public"]} if "public" in it else it["name"] for it in genesis["orgs"]]
     upgrade = genesis["upgrade"].replace(" ", "")
-    return {"ledger": 1, "orgs": orgs, "chaincodes": chaincodes, "modules": modules, "upgrade": upgrade, **limits}
+    return {"ledger": 1, "orgs": orgs, "chaincodes": chaincodes, "modules": modules, "upgrade": upgrade, **limits, **rules}
 
 
 def placed_writes(blocks: list[dict]) -> Iterator[dict]:
@@ -315,7 +330,7 @@ def are_texts(texts: object) -> bool:
 QUESTIONS: dict[str, dict[str, Callable[[Any], object]]] = {
     "setting": {},
     "members": {},
-    "block": {"number": lambda it: is_number(it, 65535)},
+    "block": {"number": lambda it: is_number(it, LAST_BLOCK)},
     "get": {"key": lambda it: is_hex(it, 1, 64)},
     "range": {"start": is_bound, "end": is_bound, "limit": lambda it: is_number(it, 1000)},
     "history": {"key": lambda it: is_hex(it, 1, 64)},
@@ -398,15 +413,14 @@ def shown(words: list[str], folder: pathlib.Path, asked: list[bytes]) -> tuple[l
     """The lines that a command prints, as values; and its status."""
     command, genesis_name, store_name, *rest = words
     options = options_of(rest)
-    genesis = json.loads((folder / genesis_name).read_text())
-    listed = {it["name"]: it for it in genesis["orgs"]}
+    genesis = read_genesis((folder / genesis_name).read_bytes())
     held = json.loads((folder / options["--modules"]).read_text()) if "--modules" in options else []
     modules = map(installed, [*genesis["chaincodes"], *genesis["modules"], *held])
     at_hand = {(it["module"], it["profile"]) for it in modules}
     store = (folder / store_name).read_bytes()
-    blocks, found = chain_of(store, genesis_name, store_name, listed, at_hand)
+    blocks, found = chain_of(store, genesis_name, store_name, genesis, at_hand)
     if command == "show":
-        first, last = int(options.get("--from", 1)), int(options.get("--to", 65535))
+        first, last = int(options.get("--from", 1)), int(options.get("--to", LAST_BLOCK))
         within = [it for it in blocks if first <= it["block"] <= last]
         return [setting_of(genesis), *within, found], int((found["audit"], found["end"]) != ("agrees", "clean"))
     if found["audit"].startswith("flags differ"):
@@ -426,7 +440,7 @@ def shown(words: list[str], folder: pathlib.Path, asked: list[bytes]) -> tuple[l
         return [*opened, *answers(asked, genesis, blocks, at_hand)], 0
     if command == "marks":
         return [mark for record in records(store)[0] for mark in marks_of(record)], 0
-    blocks = [it for it in blocks if it["block"] <= int(options.get("--at", 65535))]
+    blocks = [it for it in blocks if it["block"] <= int(options.get("--at", LAST_BLOCK))]
     if "--key" in options:
         return [it for it in placed_writes(blocks) if it["key"] == options["--key"]], 0
     return [standing_of(genesis, blocks)] if "--members" in options else entries_of(blocks), 0

@@ -1,7 +1,7 @@
 #!/usr/bin/env python3
-"""Writes the last groups of `stdin` and `stdout`: open definitions, memberships, amendments and modules files.
+"""Writes the last groups of `stdin` and `stdout`: open definitions, memberships, amendments, modules files and tags of one ledger.
 
-Rules are those of docs/RULES.md. Bytes come from node/regtuma/wire.py, ids and tags from `hashlib` and `hmac`.
+Rules are those of docs/RULES.md. Bytes come from node/regtuma/wire.py; ids and tags from `hashlib`, `hmac` and the program of RFC 8032.
 """
 import hashlib
 import hmac
@@ -10,8 +10,11 @@ import pathlib
 import sys
 from collections.abc import Callable
 
+import editions
+
 HERE = pathlib.Path(__file__).parent
-sys.path.insert(0, str(HERE.resolve().parents[1] / "node"))
+sys.path[:0] = [str(HERE.resolve().parents[1] / "node"), str(HERE.resolve().parents[1] / "python")]
+import rfc8032
 from regtuma.wire import Amendment, Definition, Member, Membership, Payload, Upgrade
 
 FIRST = "# wire: open definitions"
@@ -277,6 +280,11 @@ def begins() -> list[Row]:
     return rows + [(line(amend, without), "bad line") for without in amend]
 
 
+def own_simulations() -> list[Row]:
+    call = f"simulate kv 71 {PUTS} | "
+    return [(call, "kv() r:0x006b76@- w:a=1"), (f"under 2 {call}", "kv() r:0x006b76@-")]
+
+
 def modules() -> list[Row]:
     digest = hashlib.sha256(bytes.fromhex(SEVEN)).hexdigest()
     entry = f'{{"module":"{SEVEN}","profile":1}}'
@@ -296,6 +304,77 @@ def modules() -> list[Row]:
     return rows + [(f"modules {text}", f"refused {number}") for number, texts in refused for text in texts]
 
 
+def signed_for(signer: str, ledger: bytes, data: bytes) -> str:
+    """A signature of some bytes for one ledger alone, by the seed that is a name with zeros behind it."""
+    return rfc8032.sign(signer.encode().ljust(32, b"\0"), b"\xfftag " + ledger + data).hex()
+
+
+def bound_bytes() -> list[Row]:
+    call = short(b"kv") + long(b"") + NO_NONCE
+    wrote = call + bytes(2) + b"\0\1" + short(UPGRADED) + b"\0" + bytes(2) + b"\0\1" + short(b"a") + b"\1" + long(b"1")
+    ledgers = [bytes([7]) * 32, bytes(range(32)), bytes(32)]
+    texts = [b"", b"\xff", call, wrote, b"\xfftag " + ledgers[0] + wrote]
+    return [(f"bound B {it.hex()} {data.hex()}".rstrip(), signed_for("B", it, data)) for it in ledgers for data in texts]
+
+
+def bound_tags() -> list[Row]:
+    """Tags under rules 2, and under rules 1: those of one kind are wrong under the other."""
+    both = "AND('A','B')"
+    upgraded = f"u:7,71,'B' {put(UPGRADED, definition(1, bytes([7]) * 32, 71, QB))}"
+
+    def stands(*members: bytes) -> str:
+        return f"r:0x006b76@- / w:0x00=0x{membership(1, list(members), both).hex()}"
+
+    def amended(*members: bytes) -> str:
+        shown = "+".join(f"{it[1:2].decode()}{'!' + name if name else ''}" for it, name in ((it, owner(it)) for it in members))
+        return f"a:1,{shown},'A' {put(AMENDED, membership(1, list(members), QA))}"
+
+    def owner(it: bytes) -> str:
+        return next((name for name, public in SEEDED.items() if it.endswith(bytes.fromhex(public))), "")
+
+    own_a, kept_b = member("A", SEEDED["C"]), member("B")
+    taken, own_b = member("A", SEEDED["B"]), member("B", SEEDED["C"])
+    second = [
+        ("A,B! B@B 'B'", True),
+        ("A,B! B!B 'B'", False),
+        ("A,B! B*B 'B'", False),
+        ("A,B! B@A 'B'", False),
+        ("A,B! B/B 'B'", False),
+        ("A,B! B?B 'B'", False),
+        ("A,B! B!B,B@B 'B'", True),
+        ("A,B! B@B 'A'", False),
+        ("A,B! A/A 'A'", True),
+        ("A,B! A@A 'A'", False),
+        (f"A,B! A/A,B@B {both}", True),
+        (f"A,B! A/A,B!B {both}", False),
+        (f"A!,B! A@A,B@B {both}", True),
+        ("A!,B! A@B,B@A OR('A','B')", False),
+        ("A,B! D@D OR('A','B')", False),
+        (f"A,B! B@B 'B' | {upgraded}", True),
+        (f"A,B! B!B 'B' | {upgraded}", False),
+        (f"A,B! A@C,B@B {both} | {stands(own_a, kept_b)}", True),
+        (f"A,B! A!C,B@B {both} | {stands(own_a, kept_b)}", False),
+        (f"A,B! A*C,B@B {both} | {stands(own_a, kept_b)}", False),
+        (f"A,B! A@C,B!B {both} | {stands(own_a, kept_b)}", False),
+        (f"A,B! A@C,B*B {both} | {stands(own_a, kept_b)}", False),
+        (f"A,B! A/A,B@B {both} | {stands(own_a, kept_b)}", False),
+        (f"A,B! A@B,B@B {both} | {stands(taken, kept_b)}", False),
+        (f"A,B! A/A,B@B {both} | {stands(taken, kept_b)}", True),
+        (f"A,B! A/A 'A' | {amended(own_a, kept_b)}", True),
+        (f"A,B! A/A 'A' | {amended(taken, kept_b)}", False),
+        (f"A,B! A/A 'A' | {amended(taken, own_b)}", True),
+        (f"A,B! A/A 'A' | {amended(own_a, own_b)}", False),
+    ]
+    first = [
+        ("A,B! B@B 'B'", False),
+        ("A,B! B*B 'B'", False),
+        (f"A,B! A!C,B!B {both} | {stands(own_a, kept_b)}", True),
+        (f"A,B! A@C,B@B {both} | {stands(own_a, kept_b)}", False),
+    ]
+    rows = [(f"under 2 endorsed {case}", endorsed) for case, endorsed in second] + [(f"endorsed {case}", endorsed) for case, endorsed in first]
+    return [(case, "true" if endorsed else "false") for case, endorsed in rows]
+
+
 QA, QB, QC, QZ = "'A'", "'B'", "'C'", "'Z'"
 
 GROUPS: list[tuple[str, Callable[[], list[Row]]]] = [
@@ -310,6 +389,13 @@ GROUPS: list[tuple[str, Callable[[], list[Row]]]] = [
      " its membership may not come next", simulations),
     ("# json_events: upgrades to open definitions, and amendments", begins),
     ("# json_genesis: a modules file: 0 to 64 modules, and what is refused", modules),
+    ("# org_keys: what is signed for one ledger alone has in front the byte ff, `tag ` and the digest; signatures by the program of RFC 8032", bound_bytes),
+    ("# endorsement_policy: under rules 2 public keys, be they listed, kept or members' own, are of one ledger alone; under rules 1 no key is", bound_tags),
+    ("# mvcc_validate: under rules 2 no read is current of a key that a VALID transaction of the same block wrote, and a range is as it was"
+     " before the block too", editions.versions),
+    ("# host_api: under rules 2 chaincode writes and deletes keys that begin with its name and / alone (-2)", editions.own_keys),
+    ("# simulator: under rules 2 a put of another key is left out", own_simulations),
+    ("# endorsement_policy: under rules 2 a call that claims a write or a delete of another key is not endorsed", editions.claims),
 ]
 
 

@@ -144,6 +144,7 @@ def genesis() -> dict[str, object]:
         "preferred": 65536,
         "absolute": 524288,
         "reorder": False,
+        "rules": 2,
         "chaincodes": [
             {
                 "name": CHAINCODE,

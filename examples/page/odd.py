@@ -25,6 +25,9 @@ SHARED_KEY = b"maker's key"
 SEEDS = {name: bytes.fromhex((EXAMPLE_KEYS / f"{name.lower()}.key").read_text()) for name in ("Carrier", "Shop")}
 GENESIS: dict[str, Any] = {**EXAMPLE, "peers": ["Maker"], "count": 40,
                            "orgs": [{"name": "Maker", "key": SHARED_KEY.hex()}, *EXAMPLE["orgs"][1:]]}
+# The genesis file, and what stands in front of what is signed in its ledger, which is under rules 2.
+TEXT = json.dumps(GENESIS)
+FRONT = b"\xfftag " + hashlib.sha256(TEXT.encode()).digest()
 DIGESTS = [hashlib.sha256(bytes.fromhex(it["module"])).hexdigest() for it in EXAMPLE["chaincodes"] + EXAMPLE["modules"]]
 ORGS = [org["name"] for org in GENESIS["orgs"]]
 NAMES = ["assets", "other", "third"]
@@ -104,13 +107,14 @@ class Odd:
         seed = self.chance.choice([*SEEDS.values(), *LATER.values(), bytes(32)])
         return self.chance.choice([
             bytes(32), bytes(64), hmac.digest(SHARED_KEY, payload, "sha256"), rfc8032.sign(seed, payload),
+            rfc8032.sign(seed, FRONT + payload),
             self.tag_under(org, None, payload), hmac.digest(rfc8032.secret_to_public(seed), payload, "sha256"),
             self.tag_under(org, self.members.get(org), payload + b"\0")])
 
     def tag_under(self, org: str, public: str | None, payload: bytes) -> bytes:
         """A tag under a public key of later, or under the genesis file's key."""
         seed = LATER.get(public or "") or SEEDS.get(org)
-        return rfc8032.sign(seed, payload) if seed else hmac.digest(SHARED_KEY, payload, "sha256")
+        return rfc8032.sign(seed, FRONT + payload) if seed else hmac.digest(SHARED_KEY, payload, "sha256")
 
     def endorsed(self, tx: dict) -> dict:
         """The transaction with tags, of which some are wrong, of nobody or there twice."""
@@ -212,7 +216,7 @@ def odd_chain(room: pathlib.Path, rounds: int, seed: int) -> list[str]:
     odd = Odd(seed)
     lines: list[dict] = []
     printed: list[str] = []
-    (room / "odd_genesis.json").write_text(json.dumps(GENESIS))
+    (room / "odd_genesis.json").write_text(TEXT)
     for _ in range(rounds):
         for _ in range(GENESIS["count"]):
             lines += [{"do": "submit", "hex": make.envelope_bytes(odd.envelope()).hex()}, {"do": "take"}]

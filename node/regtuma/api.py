@@ -98,7 +98,7 @@ class Api:
         if (unread := chain.given - chain.read) > BEHIND:
             wrong.append(f"{unread} lines of the log are unread")
         if chain.is_full:
-            wrong.append("the chain is full: it has its 65,535 blocks, and takes no calls")
+            wrong.append(f"the chain is full: it has its {chain.ticks.last:,} blocks, and takes no calls")
         return wrong
 
     def warnings(self) -> list[str]:
@@ -113,7 +113,7 @@ class Api:
     def plan_warning(self) -> str:
         """What is told of the chain's end and of this organisation's plan, and whose calls the ticks were for."""
         chain = self.chain
-        warning = self.config.ticks.warning(chain.height, chain.share, chain.wait)
+        warning = chain.ticks.warning(chain.height, chain.share, chain.wait)
         if not warning or not chain.ticked:
             return warning
         (caller, count), = chain.ticked.most_common(1)

@@ -11,7 +11,6 @@ import time
 from collections.abc import Callable, Coroutine
 from typing import Any
 
-from . import ticks
 from .config import Config
 from .entries import ENTRY_CHARACTERS, ENTRY_LINES, Entry, Lines, Log, LogError
 from .filters import FilterEnded
@@ -75,6 +74,8 @@ class Chain:
         self.led = time.monotonic()
         # This organisation's part of the log, and what of the log counts.
         self.part, self.lines = config.organisation.encode(), Lines()
+        # When this organisation asks for a block, and how many there can be.
+        self.ticks = config.ticks
         # Where the log is, and how many entries it has; how many of its lines the peer was given, and how many it has read.
         self.revision = self.entries = self.given = self.read = 0
         # How often entries are put: a file bears any number.
@@ -110,6 +111,7 @@ class Chain:
         self.height = int(line.split()[1])
         self.say(line)
         self.lines = Lines.by(self.config.ledger.genesis)
+        self.ticks = dataclasses.replace(self.config.ticks, last=self.lines.shares.last)
         self.times = Times(self.config.ledger.store + ".times")
 
     def works(self) -> list[Coroutine[Any, Any, None]]:
@@ -127,7 +129,7 @@ class Chain:
     @property
     def is_full(self) -> bool:
         """Whether the last block was cut, so that what is put now is in none."""
-        return ticks.is_full(max(self.awaited.number, self.height + 1))
+        return self.ticks.is_full(max(self.awaited.number, self.height + 1))
 
     @property
     def share(self) -> int:
@@ -137,7 +139,7 @@ class Chain:
     @property
     def wait(self) -> float:
         """For how many seconds this organisation's envelopes wait before it asks for a block, by what it has brought about itself."""
-        return self.config.ticks.seconds(self.lines.shares.brought(self.part), time.time())
+        return self.ticks.seconds(self.lines.shares.brought(self.part), time.time())
 
     async def standing(self) -> dict[str, Key]:
         """The members and their keys, as the store has them now."""
@@ -218,7 +220,7 @@ class Chain:
             self.origins.judge(id, flag)
             if id in self.waiters or id in self.in_log:
                 self.resolve(id, outcome_of(place, id, flag, result))
-        if ticks.is_full(number + 1):
+        if self.ticks.is_full(number + 1):
             for id in [*self.waiters, *self.in_log]:
                 self.resolve(id, {"id": id, "refused": FULL})
 
@@ -245,7 +247,7 @@ class Chain:
         """Whether this organisation's envelopes have waited for long enough, as far as the log was read: each organisation asks, and
         pays, for its own. A tick may come behind another one's, and not count, so that it is asked again after as long."""
         awaited, asking = self.awaited, self.asking
-        if self.read < self.given or awaited.since is None or self.forked or ticks.is_full(awaited.number) or not self.share:
+        if self.read < self.given or awaited.since is None or self.forked or self.ticks.is_full(awaited.number) or not self.share:
             return False
         asked = asking.at if asking.number == self.lines.ticks + 1 else 0.0
         return now - max(awaited.since, asked) >= self.wait

@@ -12,7 +12,7 @@ import re
 from collections.abc import AsyncIterator, Iterator
 from typing import Protocol
 
-from .ticks import LAST_BLOCK, SHARE_OF
+from .ticks import LAST_BLOCKS, SHARE_OF
 
 # How long it may take to put an entry, in seconds.
 PATIENCE = 20.0
@@ -22,7 +22,7 @@ PART = re.compile(rb"([A-Za-z0-9_]{1,32})/")
 # The entry in which a tick of a number counts, and the names of those that fill a new log from a store.
 TICK, REFILL = re.compile(rb"[A-Za-z0-9_]{1,32}/tick-([1-9][0-9]{0,9})(?:-[0-9a-f]+)?"), b"/refill-"
 # The entry in which an organisation says what its block of a number is.
-SEEN = re.compile(rb"([A-Za-z0-9_]{1,32})/seen-([1-9][0-9]{0,4})")
+SEEN = re.compile(rb"([A-Za-z0-9_]{1,32})/seen-([1-9][0-9]{0,9})")
 # The bytes of the shortest envelope, by the table of docs/RULES.md, "Bytes of the ledger": of a call whose name has one byte, behind its
 # length, without argument (the two bytes of its length), with a nonce, without result, reads, ranges, writes (two bytes each) and
 # endorsements (one). Upgrades and amendments are longer.
@@ -93,7 +93,9 @@ class Shares:
     Every peer keeps each envelope. So all bytes are paid for: those of a batch alone too, which makes one block however long it is.
     """
 
-    def __init__(self, count: int, preferred: int):
+    def __init__(self, count: int, preferred: int, last: int = LAST_BLOCKS[1]):
+        # The ledger's last block.
+        self.last = last
         # A batch has at most so many envelopes, and where it has several so many bytes. Costs are in parts of a block.
         self.count, self.preferred, self.block = count, preferred, count * preferred
         # What an entry costs that counts for nothing.
@@ -110,7 +112,7 @@ class Shares:
 
     def bears(self, part: bytes, cost: int) -> bool:
         """Whether a part's share bears this."""
-        left = LAST_BLOCK * self.block - self.total - cost
+        left = self.last * self.block - self.total - cost
         return part == NOBODY or self.paid[part] + cost <= (SHARE_OF - 1) * left
 
     def pay(self, part: bytes, cost: int) -> bool:
@@ -127,7 +129,7 @@ class Shares:
 
     def left(self, part: bytes) -> int:
         """How many blocks a part can still bring about, where no other one brings about any."""
-        left = LAST_BLOCK * self.block - self.total
+        left = self.last * self.block - self.total
         return max(0, ((SHARE_OF - 1) * left - self.paid[part]) // (SHARE_OF * self.block))
 
 
@@ -144,8 +146,8 @@ class Lines:
     up. One regular expression finds what may count: Python sees no other line.
     """
 
-    def __init__(self, count: int = 512, preferred: int = 65536):
-        self.shares = Shares(count, preferred)
+    def __init__(self, count: int = 512, preferred: int = 65536, last: int = LAST_BLOCKS[1]):
+        self.shares = Shares(count, preferred, last)
         # The revision of the last entry, and how many lines its entries had.
         self.revision = self.lines = 0
         # How many ticks have counted, and whose envelopes stand behind the last one.
@@ -159,10 +161,10 @@ class Lines:
 
     @classmethod
     def by(cls, genesis: str) -> "Lines":
-        """The lines of a log whose batches have the limits of a genesis file."""
+        """The lines of a log whose batches have the limits of a genesis file, and whose blocks go as far as its rules let them."""
         try:
             limits = json.loads(pathlib.Path(genesis).read_bytes())
-            return cls(int(limits["count"]), int(limits["preferred"]))
+            return cls(int(limits["count"]), int(limits["preferred"]), LAST_BLOCKS[limits.get("rules", 1)])
         except (OSError, ValueError, KeyError, TypeError):
             raise LogError(f"{genesis} is no genesis file") from None
 
@@ -199,7 +201,7 @@ class Lines:
             found = [(it.start(), it[0].strip(b"\n")) for it in marks.finditer(text)]
             if text.startswith(b"\ntick\n") and TICK.fullmatch(name):
                 found.append((0, b"tick"))
-        if (said := SEEN.fullmatch(name)) and name not in self.seen:
+        if (said := SEEN.fullmatch(name)) and int(said[2]) <= self.shares.last and name not in self.seen:
             if (at := text.find(b"\nseen %s %s " % said.groups())) >= 0:
                 mark = text[at + 1:text.index(b"\n", at + 1)]
                 if len(mark) <= LONGEST_SEEN:

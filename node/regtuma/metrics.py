@@ -6,7 +6,6 @@ import prometheus_client as prometheus
 from prometheus_client.core import CounterMetricFamily, GaugeMetricFamily
 from prometheus_client.registry import Collector
 
-from . import ticks
 from .chain import Chain
 
 SECONDS = (.05, .1, .2, .5, 1, 2, 5, 10, 30, 60, 600)
@@ -30,7 +29,7 @@ class Metrics(Collector):
         chain, awaited = self.chain, self.chain.awaited
         gauges = {
             "height": ("Blocks in the store", chain.height),
-            "blocks_left": ("Blocks until the end of the chain", ticks.LAST_BLOCK - chain.height),
+            "blocks_left": ("Blocks until the end of the chain", chain.ticks.last - chain.height),
             "share_left": ("Blocks that this organisation can bring about", chain.share),
             "waiting": ("Envelopes that wait for a block", awaited.waiting),
             "unput": ("Envelopes not yet in the log", len(chain.unput)),

@@ -117,9 +117,9 @@ class Node:
     async def begin(self) -> Object:
         """Begins the peer, which reads the store. What `ledger version` says."""
         program = await version_of(self.config.ledger.program)
-        if promise := self.config.ticks.promise():
-            say(f"warning: {promise}")
         await self.chain.start()
+        if promise := self.chain.ticks.promise():
+            say(f"warning: {promise}")
         await self.endorsing.start()
         return program
 

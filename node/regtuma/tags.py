@@ -13,18 +13,27 @@ from cryptography.hazmat.primitives.asymmetric.ed25519 import Ed25519PublicKey
 from .peer import Peer
 from .wire import HMAC, SIGNATURE, Endorsement
 
+# What stands in front of all that is signed under rules 2, before the genesis file's SHA-256.
+BOUND = b"\xfftag "
+
+
+def front_of(genesis: bytes) -> bytes:
+    """What stands in front of what organisations sign in the ledger of a genesis file: nothing under rules 1."""
+    return BOUND + hashlib.sha256(genesis).digest() if json.loads(genesis).get("rules", 1) > 1 else b""
+
 
 @dataclasses.dataclass(frozen=True)
 class Key:
-    """An organisation's key, of which it has one: a shared one, or a public one of Ed25519."""
+    """An organisation's key, of which it has one: a shared one, or a public one of Ed25519. What is signed has this front."""
     shared: bytes = b""
     public: bytes = b""
+    front: bytes = b""
 
     def is_right(self, tag: bytes, payload: bytes) -> bool:
         if self.shared:
             return hmac.compare_digest(tag, hmac.new(self.shared, payload, hashlib.sha256).digest())
         try:
-            Ed25519PublicKey.from_public_bytes(self.public).verify(tag, payload)
+            Ed25519PublicKey.from_public_bytes(self.public).verify(tag, self.front + payload)
             return True
         except (InvalidSignature, ValueError):
             return False
@@ -39,7 +48,7 @@ class Keys:
     """By which keys organisations stand."""
 
     def __init__(self, genesis: str):
-        self.genesis = genesis
+        self.genesis, self.front = genesis, b""
         self.first: dict[str, Key] = {}
         # The membership that stood behind so many blocks, and from where on it is known to have stood.
         self.height = self.since = -1
@@ -63,9 +72,13 @@ class Keys:
 
     def _of(self, organisation: str, public: str | None) -> Key:
         """A member's own key, or the one that the genesis file gives it."""
-        if public:
-            return Key(public=bytes.fromhex(public))
         if not self.first:
-            listed = json.loads(pathlib.Path(self.genesis).read_bytes())["orgs"]
-            self.first = {it["name"]: Key(bytes.fromhex(it.get("key", "")), bytes.fromhex(it.get("public", ""))) for it in listed}
-        return self.first[organisation]
+            self._read()
+        return Key(public=bytes.fromhex(public), front=self.front) if public else self.first[organisation]
+
+    def _read(self) -> None:
+        """Reads the genesis file: its keys, and what stands in front of what is signed in its ledger."""
+        text = pathlib.Path(self.genesis).read_bytes()
+        self.front = front_of(text)
+        self.first = {it["name"]: Key(bytes.fromhex(it.get("key", "")), bytes.fromhex(it.get("public", "")), self.front)
+                      for it in json.loads(text)["orgs"]}

@@ -1,8 +1,9 @@
 """When a block is asked for.
 
-A chain has 65,535 blocks, and of these one organisation alone brings about 49,151 (entries.py). So it lasts that many times the mean
-time between two of them: 7 hours at half a second, 34 days at a minute, 4 years at 40 minutes. An organisation lays out the blocks that
-it brings about itself, along a line from the day on which the chain begins to the last one of `lasts_days`, `burst` of them at once.
+A chain has 4,000,000,000 blocks under rules 2, and of these one organisation alone brings about three fourths (entries.py): 47 years of
+them at half a second. Under rules 1 it has 65,535, and 49,151 of them last 7 hours at half a second, 34 days at a minute, 4 years at 40
+minutes. So an organisation may lay out the blocks that it brings about itself, along a line from the day on which the chain begins to
+the last one of `lasts_days`, `burst` of them at once.
 Below that line a tick comes after `wait` seconds: what was saved in quiet hours is spent in busy ones. Above it, a tick waits until the
 line has come up, at most `longest` seconds. Blocks of others move no line, so nobody makes another one's calls wait.
 
@@ -10,10 +11,11 @@ All is worked out of the clock and the log, so that the nodes of an organisation
 """
 import dataclasses
 
-LAST_BLOCK = 65535
-# One of so many blocks that are left is the others' by itself, and so many one organisation brings about where nobody else does.
+# The greatest number that a block of any ledger can have, and the last block of a ledger by the number of its rules.
+LAST_BLOCK = 4_000_000_000
+LAST_BLOCKS = {1: 65_535, 2: LAST_BLOCK}
+# One of so many blocks that are left is the others' by itself.
 SHARE_OF = 4
-SHARE = LAST_BLOCK * (SHARE_OF - 1) // SHARE_OF
 DAY = 86400
 # So few blocks are told of, wherever the chain is on its line.
 FEW = 5000
@@ -27,10 +29,17 @@ class Ticks:
     begins: float = 0.0
     lasts_days: int = 0
     burst: int = 1000
+    # The ledger's last block.
+    last: int = LAST_BLOCKS[1]
+
+    @property
+    def share(self) -> int:
+        """How many blocks one organisation brings about where nobody else does."""
+        return self.last * (SHARE_OF - 1) // SHARE_OF
 
     def each(self) -> float:
         """The seconds from one block to the next along the line."""
-        return self.lasts_days * DAY / (SHARE - self.burst)
+        return self.lasts_days * DAY / (self.share - self.burst)
 
     def allowed(self, now: float) -> float:
         """How many blocks an organisation may have brought about by now."""
@@ -45,7 +54,7 @@ class Ticks:
     def shortest_days(self) -> float:
         """How long the share of an organisation lasts where its envelopes never cease to wait, no block is full, and no other one calls."""
         slowest = self.longest if self.begins else self.wait
-        return SHARE * slowest / DAY
+        return self.share * slowest / DAY
 
     def promise(self) -> str:
         """What the numbers come to, where they do not keep what they seem to say; else nothing."""
@@ -57,16 +66,15 @@ class Ticks:
     def warning(self, height: int, share: int, wait: float) -> str:
         """What is told of a chain with so many blocks, to which the organisation can add so many, and where its envelopes wait for so
         many seconds, if the end comes near or the organisation is above its line; else nothing."""
-        left = LAST_BLOCK - height
+        left = self.last - height
         if left == 0:
-            return "the chain is full: it has its 65,535 blocks, and takes no calls"
+            return f"the chain is full: it has its {self.last:,} blocks, and takes no calls"
         if (share := min(left, share)) < FEW:
             return f"the chain has {left} blocks left, and this organisation's share of these is {share}"
         if wait > self.wait:
             return f"this organisation is ahead of its plan, so it asks for a block after {wait:.0f} s: {share} blocks of its share are left"
         return ""
 
-
-def is_full(number: int) -> bool:
-    """Whether a chain whose next block would have this number takes no more calls."""
-    return number > LAST_BLOCK
+    def is_full(self, number: int) -> bool:
+        """Whether a chain whose next block would have this number takes no more calls."""
+        return number > self.last

@@ -18,8 +18,7 @@ from regtuma.endorsing import Endorsing
 from regtuma.fields import RIGHTS
 from regtuma.filters import FilterEnded, TooLong
 from regtuma.gateway import Gateway
-from regtuma.ticks import LAST_BLOCK
-from test_chain import CALL, FakeLog, Says, Times
+from test_chain import CALL, LAST_BLOCK, FakeLog, Says, Times
 
 ROW = re.compile(r"^\| `(GET|POST|DELETE) (/[^`?\s]*)", re.MULTILINE)
 EMPTY: dict[str, Any] = {"setting": {"ledger": 1}, "members": {"serial": 0}, "get": None, "range": [], "history": [],

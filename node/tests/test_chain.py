@@ -19,9 +19,11 @@ from regtuma.links import Link
 from regtuma.load import Held
 from regtuma.proposals import Refused
 from regtuma.tags import Key
-from regtuma.ticks import LAST_BLOCK
+from regtuma.ticks import LAST_BLOCKS
 from regtuma.wire import id_of
 
+# The last block of a ledger under rules 1.
+LAST_BLOCK = LAST_BLOCKS[1]
 CALL = {"chaincode": "assets", "arg": "00", "nonce": "07" * 16}
 ENDORSED = {"payload": "aa", "endorsement": "01", "height": 3}
 # As many digits as the shortest envelope has.
@@ -148,7 +150,7 @@ class Ticks(Case):
     async def test_blocks_of_others_make_nobody_here_wait_longer(self):
         """An organisation waits by the blocks that it has brought about itself."""
         plan = ticks.Ticks(begins=time.time(), lasts_days=365, burst=10)
-        self.chain.config = dataclasses.replace(self.config, ticks=plan)
+        self.chain.ticks = plan
         for part, is_due in (("Shop", True), ("Maker", False)):
             self.bring_about(part, 20)
             for height in (0, 20, 40):
@@ -312,7 +314,7 @@ class End(Case):
         with self.assertRaises(Refused) as raised:
             self.gateway.check_open()
         self.assertEqual((raised.exception.status, raised.exception.said),
-                         (422, {"refused": 422, "why": "the chain is full: it has 65,535 blocks"}))
+                         (422, {"refused": 422, "why": "the chain is full: the rules of the ledger allow no block more"}))
 
     async def test_a_store_that_is_full_takes_none(self):
         self.chain.height = LAST_BLOCK

@@ -7,12 +7,10 @@ import re
 import sys
 import tempfile
 import unittest
-from unittest import mock
 
 import support
 from regtuma import entries
-from regtuma.entries import Entry, Lines, Shares
-from regtuma.ticks import LAST_BLOCK
+from regtuma.entries import Entry, Lines, LogError, Shares
 
 # Envelopes of the fewest bytes, which nobody has endorsed: calls of `a` and `b` with no argument, no reads, no writes.
 ENVELOPE, OTHER = "0161" + "00" * 27, "0162" + "00" * 27
@@ -83,10 +81,9 @@ class Counts(unittest.TestCase):
 
 class Refills(unittest.TestCase):
     def test_they_cost_no_share(self):
-        with mock.patch.object(entries, "LAST_BLOCK", 8):
-            lines, blocks = Lines(), f"{ENVELOPE}\ntick\n{OTHER}\ntick"
-            refill = [(f"Maker/refill-{it}", text) for text in (blocks, "x") for it in range(3)]
-            found = counted(lines, ("Maker/genesis", f"genesis {'0f' * 32}"), *refill)
+        lines, blocks = Lines(last=8), f"{ENVELOPE}\ntick\n{OTHER}\ntick"
+        refill = [(f"Maker/refill-{it}", text) for text in (blocks, "x") for it in range(3)]
+        found = counted(lines, ("Maker/genesis", f"genesis {'0f' * 32}"), *refill)
         self.assertEqual((len(found), lines.shares.paid), (13, {b"": 6 * lines.shares.block}))
 
     def test_they_come_first_and_of_whom_the_log_begins_with(self):
@@ -113,39 +110,35 @@ class Attacks(unittest.TestCase):
         self.others_go_on(lines, 9)
 
     def test_by_envelopes_and_ticks_in_its_own_part(self):
-        with mock.patch.object(entries, "LAST_BLOCK", 600):
-            lines = Lines()
-            attack = [entry for it in range(1, 700) for entry in ((f"Shop/{it}", ENVELOPE), (f"Shop/tick-{it}", "tick"))]
-            ticks = str(counted(lines, *attack)).count("tick")
-            self.assertTrue(440 <= ticks <= 450, ticks)
-            self.assertEqual((lines.shares.left(b"Shop"), lines.shares.left(b"Maker") > 100), (0, True))
-            self.others_go_on(lines, 9000)
+        lines = Lines(last=600)
+        attack = [entry for it in range(1, 700) for entry in ((f"Shop/{it}", ENVELOPE), (f"Shop/tick-{it}", "tick"))]
+        ticks = str(counted(lines, *attack)).count("tick")
+        self.assertTrue(440 <= ticks <= 450, ticks)
+        self.assertEqual((lines.shares.left(b"Shop"), lines.shares.left(b"Maker") > 100), (0, True))
+        self.others_go_on(lines, 9000)
 
     def test_by_full_blocks(self):
-        with mock.patch.object(entries, "LAST_BLOCK", 600):
-            lines = Lines(count=10, preferred=4096)
-            many = len(counted(lines, *((f"Shop/{it}", f"{ENVELOPE}\n" * 400) for it in range(30))))
-            self.assertLessEqual(many, 4500)
-            self.assertEqual(counted(lines, ("Shop/large", "00" * 4096), first=200), [])
-            self.others_go_on(lines, 9000)
+        lines = Lines(count=10, preferred=4096, last=600)
+        many = len(counted(lines, *((f"Shop/{it}", f"{ENVELOPE}\n" * 400) for it in range(30))))
+        self.assertLessEqual(many, 4500)
+        self.assertEqual(counted(lines, ("Shop/large", "00" * 4096), first=200), [])
+        self.others_go_on(lines, 9000)
 
     def test_by_long_envelopes(self):
         """Each peer keeps all their bytes, and so these are paid for."""
-        with mock.patch.object(entries, "LAST_BLOCK", 600):
-            lines, long = Lines(), "00" * 266_531
-            many = len(counted(lines, *((f"Shop/{it}", long) for it in range(60))))
-            self.assertTrue(50 < many <= 450 * 32_768 // 266_531, many)
-            self.others_go_on(lines, 9000)
+        lines, long = Lines(last=600), "00" * 266_531
+        many = len(counted(lines, *((f"Shop/{it}", long) for it in range(60))))
+        self.assertTrue(50 < many <= 450 * 32_768 // 266_531, many)
+        self.others_go_on(lines, 9000)
 
     def test_by_a_tick_behind_each_envelope_of_others(self):
         """Who ticks pays: what others put costs them no more than their part of a block."""
-        with mock.patch.object(entries, "LAST_BLOCK", 600):
-            lines, had = Lines(), Lines().shares.left(b"Maker")
-            for it in range(1, 400):
-                counted(lines, (f"Maker/{it}", ENVELOPE), (f"Shop/tick-{it}", "tick"), first=10 * it)
-            shares = lines.shares
-            self.assertEqual((had, shares.paid[b"Maker"] // shares.block, shares.paid[b"Shop"] // shares.block), (450, 0, 399))
-            self.others_go_on(lines, 9000)
+        lines, had = Lines(last=600), Lines(last=600).shares.left(b"Maker")
+        for it in range(1, 400):
+            counted(lines, (f"Maker/{it}", ENVELOPE), (f"Shop/tick-{it}", "tick"), first=10 * it)
+        shares = lines.shares
+        self.assertEqual((had, shares.paid[b"Maker"] // shares.block, shares.paid[b"Shop"] // shares.block), (450, 0, 399))
+        self.others_go_on(lines, 9000)
 
     def test_by_signatures_that_all_verify(self):
         lines = Lines()
@@ -172,28 +165,25 @@ class Attacks(unittest.TestCase):
                 self.assertEqual(len(counted(Lines(512, preferred), ("Maker/a", "00" * 524_288))), 1)
 
     def test_two_leave_a_sixteenth(self):
-        with mock.patch.object(entries, "LAST_BLOCK", 600):
-            shares = Shares(512, 65536)
-            for part in (b"Shop", b"Depot"):
-                while shares.pay(part, shares.block):
-                    pass
-            left = 600 - shares.total // shares.block
-            self.assertEqual((left, shares.left(b"Shop"), shares.left(b"Depot"), shares.left(b"Maker") > 0), (38, 0, 0, True))
+        shares = Shares(512, 65536, 600)
+        for part in (b"Shop", b"Depot"):
+            while shares.pay(part, shares.block):
+                pass
+        left = 600 - shares.total // shares.block
+        self.assertEqual((left, shares.left(b"Shop"), shares.left(b"Depot"), shares.left(b"Maker") > 0), (38, 0, 0, True))
 
     def test_all_together_have_no_more_than_the_chain(self):
-        with mock.patch.object(entries, "LAST_BLOCK", 600):
-            shares = Shares(512, 65536)
-            for it in range(10_000):
-                shares.pay(b"%d" % (it % 16), shares.block)
-            self.assertTrue(580 <= shares.total // shares.block <= 600)
+        shares = Shares(512, 65536, 600)
+        for it in range(10_000):
+            shares.pay(b"%d" % (it % 16), shares.block)
+        self.assertTrue(580 <= shares.total // shares.block <= 600)
 
 
 class Junk(unittest.TestCase):
     """What counts for nothing: it costs each node little, and its part something."""
 
-    def begun(self, last: int = LAST_BLOCK) -> Lines:
-        self.enterContext(mock.patch.object(entries, "LAST_BLOCK", last))
-        lines = Lines()
+    def begun(self, last: int = 65_535) -> Lines:
+        lines = Lines(last=last)
         counted(lines, ("Maker/genesis", f"genesis {'0f' * 32}"))
         return lines
 
@@ -317,8 +307,19 @@ class Blocks(unittest.TestCase):
                 self.assertLessEqual(blocks, paid)
                 self.assertGreater(blocks, 5)
 
-    def test_the_last_one_is_the_programs(self):
-        self.assertEqual(entries.LAST_BLOCK, LAST_BLOCK)
+    def test_the_last_one_goes_by_the_rules_of_the_genesis_file(self):
+        file = pathlib.Path(self.enterContext(tempfile.TemporaryDirectory())) / "genesis.json"
+        for rules, last in (({}, 65_535), ({"rules": 1}, 65_535), ({"rules": 2}, 4_000_000_000)):
+            file.write_text(json.dumps({"count": 1, "preferred": 1, **rules}))
+            self.assertEqual(Lines.by(str(file)).shares.last, last)
+        file.write_text(json.dumps({"count": 1, "preferred": 1, "rules": 3}))
+        with self.assertRaises(LogError):
+            Lines.by(str(file))
+
+    def test_what_is_seen_goes_as_far_as_the_rules_let_blocks_go(self):
+        for last, wanted in ((65_535, 1), (4_000_000_000, 2)):
+            given = [(f"Shop/seen-{it}", f"seen Shop {it} 00") for it in (65_535, 4_000_000_000, 4_000_000_001)]
+            self.assertEqual(len(counted(Lines(last=last), *given)), wanted)
 
 
 if __name__ == "__main__":

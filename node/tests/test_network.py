@@ -106,7 +106,7 @@ class Case(unittest.IsolatedAsyncioTestCase):
 class Attacks(Case):
     async def test_others_calls_are_valid_behind_an_attack(self):
         made = {it: self.enveloped(call(it), "Maker", "Carrier") for it in range(2)}
-        with mock.patch.object(entries, "LAST_BLOCK", 40):
+        with mock.patch.dict(entries.LAST_BLOCKS, {2: 40}):
             chain = (await self.begin()).chain
             for it in range(1, 50):
                 await chain.log.append(f"tick-{it}", [ENVELOPE, "tick"] * 500)

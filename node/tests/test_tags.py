@@ -1,5 +1,6 @@
 """Whose tags are right, by endorsements that the ledger's program makes; and that the gateway puts none which is not."""
 import asyncio
+import json
 import pathlib
 import tempfile
 import unittest
@@ -45,6 +46,16 @@ class Endorsed(unittest.IsolatedAsyncioTestCase):
         self.assertEqual(await self.faults({"Depot": right}), {"Depot": not_right})
         other_call = {**right, "payload": right["payload"].replace(b"pallet-7".hex(), b"pallet-8".hex())}
         self.assertEqual(await self.faults({"Carrier": other_call}), {"Carrier": "its payload is that of another call"})
+
+    async def test_a_signature_is_of_one_ledger(self):
+        text, not_right = self.genesis.read_bytes(), "its endorsement is not by the key by which it stands"
+        for rules, changed, lies in ((2, text, {}), (2, text + b" ", dict.fromkeys(("Carrier", "Shop"), not_right)),
+                                     (1, text.replace(b'"rules": 2', b'"rules": 1'), dict.fromkeys(("Carrier", "Shop"), not_right))):
+            other = self.genesis.with_name("other.json")
+            other.write_bytes(changed)
+            self.assertEqual(json.loads(changed).get("rules", 1), rules)
+            self.keys = Keys(str(other))
+            self.assertEqual(await self.faults(self.answers), lies)
 
     async def test_what_this_node_does_not_execute_is_told(self):
         own = {**self.answers["Maker"], "payload": self.answers["Maker"]["payload"] + "00"}

@@ -5,9 +5,11 @@ import unittest
 
 import support
 from regtuma import ticks
-from regtuma.ticks import DAY, LAST_BLOCK, SHARE, Ticks
+from regtuma.ticks import DAY, LAST_BLOCKS, Ticks
 
 BEGINS = float(DAY)
+# The last block of a ledger under rules 1, and the share of one organisation.
+LAST_BLOCK, SHARE = LAST_BLOCKS[1], Ticks().share
 
 
 def chain(rule: Ticks, arrivals: list[float], block: int = 512) -> tuple[int, list[float]]:
@@ -79,7 +81,14 @@ class Words(unittest.TestCase):
         self.assertEqual([plan(365).warning(5000, 40000, it) for it in (0.5, 700.0)], ["", said])
 
     def test_the_last_block_is_the_end(self):
-        self.assertEqual([ticks.is_full(it) for it in (1, LAST_BLOCK, LAST_BLOCK + 1)], [False, False, True])
+        for last in LAST_BLOCKS.values():
+            self.assertEqual([Ticks(last=last).is_full(it) for it in (1, last, last + 1)], [False, False, True])
+
+    def test_under_rules_2_a_share_lasts_47_years_at_half_a_second(self):
+        rule = Ticks(last=LAST_BLOCKS[2])
+        self.assertEqual((rule.share, int(rule.shortest_days() / 365)), (3_000_000_000, 47))
+        self.assertEqual(rule.warning(65_535, rule.share, rule.wait), "")
+        self.assertEqual(dataclasses.replace(plan(1825), last=rule.last).promise(), "")
 
 
 if __name__ == "__main__":

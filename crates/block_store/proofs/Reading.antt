@@ -95,8 +95,8 @@ still_reading next needed held piece now h e short =
     (record { number = h.number; small = beginning_small next (held ++ piece) (h.awaits piece few); awaits = awaits_on next held piece needed h.awaits })
 
 -- the records were taken out
-pub now_reading : (n : ℕ) (bytes now : List ℕ) (cs : List Committed) (q : Progress) (needed : ℕ) → now ≡ q.held → Reads n bytes cs q → q.next ≤ 65536 →
-    Awaits q.next q.held needed → IsReading q.next now needed
+pub now_reading : (n : ℕ) (bytes now : List ℕ) (cs : List Committed) (q : Progress) (needed : ℕ) → now ≡ q.held → Reads n bytes cs q →
+    q.next ≤ 4000000001 → Awaits q.next q.held needed → IsReading q.next now needed
 now_reading n bytes now cs q needed e h k awaits =
     subst (λ (t : List ℕ). IsReading q.next t needed) (sym e) (record { number = k; small = reads_small n bytes cs q h; awaits = awaits })
 
@@ -121,17 +121,17 @@ fed_reads p piece ds q sound h = subst (λ d. FeedsBy d p piece ds q) sound h
 
 -- ---- what is left to read
 
-left_same : (p-next q-next p-held q-held more : ℕ) → p-next ≤ 65536 → p-held < 526954 → q-next ≡ p-next → q-held ≡ p-held + more → 0 < more → q-held < 526954 →
-    (65537 - q-next) * 526954 - q-held < (65537 - p-next) * 526954 - p-held
+left_same : (p-next q-next p-held q-held more : ℕ) → p-next ≤ 4000000001 → p-held < 526954 → q-next ≡ p-next → q-held ≡ p-held + more → 0 < more →
+    q-held < 526954 → (4000000002 - q-next) * 526954 - q-held < (4000000002 - p-next) * 526954 - p-held
 left_same a b h k m u v e f s w = omega (arith, u, v, e, f, s, w)
 
-left_fewer : (p-next q-next p-held q-held : ℕ) → q-next ≤ 65536 → p-held < 526954 → p-next < q-next →
-    (65537 - q-next) * 526954 - q-held < (65537 - p-next) * 526954 - p-held
+left_fewer : (p-next q-next p-held q-held : ℕ) → q-next ≤ 4000000001 → p-held < 526954 → p-next < q-next →
+    (4000000002 - q-next) * 526954 - q-held < (4000000002 - p-next) * 526954 - p-held
 left_fewer a b h k u v s = omega (arith, u, v, s)
 
 pub left_falls : (p : Progress) (piece : List ℕ) (ds : List Committed) (q : Progress) → p.is_damaged ≡ false → q.is_damaged ≡ false → Feeds p piece ds q →
-    p.next ≤ 65536 → length p.held < 526954 → q.next ≤ 65536 → length q.held < 526954 → 0 < length piece
-    → (65537 - q.next) * 526954 - length q.held < (65537 - p.next) * 526954 - length p.held
+    p.next ≤ 4000000001 → length p.held < 526954 → q.next ≤ 4000000001 → length q.held < 526954 → 0 < length piece
+    → (4000000002 - q.next) * 526954 - length q.held < (4000000002 - p.next) * 526954 - length p.held
 left_falls p piece [] q sound still fed pn ph qn qh some =
     let h = fed_reads p piece [] q sound fed in
     let rests : RestsBy false p.next (p.held ++ piece) q.held = subst (λ d. RestsBy d p.next (p.held ++ piece) q.held) still h.1 in

@@ -14,7 +14,7 @@ pub record Progress : Type 0 where
 
 -- what a reader knows of its fields
 pub record IsReading (next : ℕ) (held : List ℕ) (needed : ℕ) : Type 0 where
-  pub number : next ≤ 65536
+  pub number : next ≤ 4000000001
   pub small : length held < 526954
   pub awaits : Awaits next held needed
 

@@ -60,7 +60,7 @@ impl RecordReader {
     pub fn feed(&mut self, piece: &[u8]) -> Result<Vec<CommittedBlock>, AllocError>
         ensures fed { IfOk result (λ v. Feeds self.old piece.now v.items self.new) }
         ensures err { OnErr result (self.new ≡ self.old) }
-        ensures next { self.new.next ≤ 65536 }
+        ensures next { self.new.next ≤ 4000000001 }
         ensures held { length self.new.held < 526954 }
     {
         if self.is_damaged {
@@ -94,11 +94,11 @@ impl RecordReader {
         self.held.len()
     }
 
-    /// The number of the next record, 1 to 65,536. Records have numbers up to 65,535, so none has
-    /// the last.
+    /// The number of the next record, 1 to 4,000,000,001. Records have numbers up to 4,000,000,000,
+    /// so none has the last.
     pub fn next(&self) -> u32
         ensures value { result ≡ self.now.next }
-        ensures limits { result ≤ 65536 }
+        ensures limits { result ≤ 4000000001 }
     {
         self.next
     }

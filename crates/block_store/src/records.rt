@@ -23,12 +23,12 @@ pub(crate) struct Records {
 
 /// The whole records from number `next` on.
 pub(crate) fn read_records(alloc: Global, next: u32, bytes: &[u8]) -> Result<Records, AllocError>
-    requires { next ≤ 65536 }
+    requires { next ≤ 4000000001 }
     ensures read { IfOk result (λ r. Reads next bytes.now r.records.items
         (record { next = r.next; held = drop r.taken bytes.now; is_damaged = r.is_damaged })) }
     ensures taken { IfOk result (λ r. r.taken ≤ length bytes.now) }
     ensures awaits { IfOk result (λ r. Awaits r.next (drop r.taken bytes.now) r.needed) }
-    ensures next { IfOk result (λ r. r.next ≤ 65536) }
+    ensures next { IfOk result (λ r. r.next ≤ 4000000001) }
 {
     let mut records = Vec::new(alloc);
     let mut number = next;

@@ -3,6 +3,7 @@ use Rattle.std.specs.Prelude.{◌≡◌, ◌≤◌, ◌+◌, ◌&&◌, ℕ, nat_
 use Rattle.std.specs.List.{find, list_all, list_any, AllByRecursion}
 use Rattle.std.specs.Cmp.Lexicographic.{pointwise}
 use Rattle.std.specs.Option.{option_and_then, option_or}
+use Rattle.fab_types.specs.declared.edition.Edition.{Edition}
 use Rattle.wasm_ast.specs.declared.module.Module.{Module}
 use Rattle.wasm_typing.specs.ModuleRules.{IsValid}
 use Rattle.endorsement_policy.specs.Installed.{Installed, is_id, place_of}
@@ -10,9 +11,10 @@ use Rattle.endorsement_policy.specs.declared.installed.ModuleId.{ModuleId}
 use Rattle.chaincode_book.specs.declared.book.Chaincode.{Chaincode}
 use Rattle.chaincode_book.specs.declared.book.Held.{Held}
 
--- the chaincodes of the genesis, more modules, and what a definition can be used with: the ids of the chaincodes' modules, then those of the
--- modules; and what else a process has at hand
+-- the edition by which chaincode is executed, the chaincodes of the genesis, more modules, and what a definition can be used with: the ids of the
+-- chaincodes' modules, then those of the modules; and what else a process has at hand
 pub record Book : Type 0 where
+  pub edition : Edition
   pub chaincodes : List Chaincode
   pub modules : List Module
   pub installed : Installed

@@ -7,8 +7,8 @@ ghost use Rattle.endorsement_policy.specs.Installed.{is_id};
 ghost use Rattle.chaincode_book.specs.Books.{IsBook, AreValid, chaincode_at, is_named, has_fuel, have_own_names, held_of, installed_module, module_at_hand, modules_of};
 
 use endorsement_policy::{Installed, ModuleId};
-use fab_types::Name;
 use fab_types::limits::{MOST_CHAINCODES, MOST_FUEL, MOST_HELD, MOST_MODULES};
+use fab_types::{Edition, Name};
 use std::marker::Model;
 use wasm_validate::ValidModule;
 
@@ -28,11 +28,12 @@ pub struct Held {
     pub module: ValidModule,
 }
 
-/// Up to 16 chaincodes of different names, each with a fuel of 1 to 10,000,000, and up to 16
-/// modules more. All these modules are installed, those of the chaincodes first. Up to 64 modules
-/// may be at hand beside them.
+/// The edition of the rules by which chaincode is executed, up to 16 chaincodes of different names,
+/// each with a fuel of 1 to 10,000,000, and up to 16 modules more. All these modules are installed,
+/// those of the chaincodes first. Up to 64 modules may be at hand beside them.
 #[derive(Drop)]
 pub struct Book {
+    edition: Edition,
     chaincodes: Vec<Chaincode>,
     modules: Vec<ValidModule>,
     installed: Installed,
@@ -57,6 +58,7 @@ impl Model for Book {
 
     ghost view = { λ b.
         record {
+          edition = b.edition;
           chaincodes = b.chaincodes.items;
           modules = b.modules.items;
           installed = b.installed;
@@ -66,6 +68,7 @@ impl Model for Book {
     ghost invariant = { λ b.
         let book : Book =
         record {
+          edition = b.edition;
           chaincodes = b.chaincodes.items;
           modules = b.modules.items;
           installed = b.installed;
@@ -79,6 +82,7 @@ impl Book {
     /// there are more than 16 of either or more than 64 at hand, if two chaincodes have the same
     /// name, if a fuel is out of its range or if there is not one id for each installed module.
     pub fn new(
+        edition: Edition,
         chaincodes: Vec<Chaincode>,
         modules: Vec<ValidModule>,
         installed: Installed,
@@ -87,6 +91,7 @@ impl Book {
         ensures accepted { IsSome result
             ↔ IsBook
             (record {
+              edition = edition;
               chaincodes = chaincodes.items;
               modules = modules.items;
               installed = installed;
@@ -95,6 +100,7 @@ impl Book {
         ensures value { IfSome result
             (λ b. b
             ≡ record {
+              edition = edition;
               chaincodes = chaincodes.items;
               modules = modules.items;
               installed = installed;
@@ -113,11 +119,19 @@ impl Book {
             return None;
         }
         Some(Book {
+            edition,
             chaincodes,
             modules,
             installed,
             held,
         })
+    }
+
+    /// The edition by which chaincode is executed.
+    pub fn edition(&self) -> Edition
+        ensures { result ≡ self.now.edition }
+    {
+        self.edition
     }
 
     /// The chaincodes, in the order in which they were given. The module of each is valid.

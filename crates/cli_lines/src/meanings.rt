@@ -59,7 +59,7 @@ fn call_meaning(number: u16) -> &'static str {
 fn order_meaning(number: u16) -> &'static str {
     match number {
         421 => "the envelope is above the absolute size; split it, or raise absolute",
-        422 => "a block past number 65,535 would be needed; the chain is full",
+        422 => "the ledger's rules allow no block more; the chain is full",
         431 => "a seat got no place at its peer; open fewer seats",
         432 => "a seat got no snapshot from its peer; open the peer again",
         451 => "the seat has begun a call already; finish it, or use another seat",
@@ -157,7 +157,7 @@ fn block_fault(refusal: CommitRefusal) -> &'static str {
             "names another header before it; it is another ledger's, or was changed"
         }
         CommitRefusal::DataHash => "has other data than its header says; take it again",
-        CommitRefusal::AtEnd => "is one past the last number, 65,535; the chain is full",
+        CommitRefusal::AtEnd => "is one past the last number, 4,000,000,000; the chain is full",
         CommitRefusal::Memory => "finds no memory; give it again when there is some",
     }
 }

@@ -2,7 +2,6 @@ pub mod Lines
 pub mod Filters
 pub mod Keeping
 pub mod Numerals
-pub mod NoPayload
 pub mod LeftOut
 pub mod Transactions
 pub mod Entries

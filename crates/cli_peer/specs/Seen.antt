@@ -15,7 +15,7 @@ use Rattle.fab_types.specs.declared.tag.Tag.TheVariants as tag
 use Rattle.ledger_model.specs.Chain.{Chain}
 use Rattle.org_keys.specs.declared.organisation.Organisation.{Organisation}
 use Rattle.org_keys.specs.declared.organisation.OrgKey.{OrgKey}
-use Rattle.org_keys.specs.declared.organisation.OrgKey.TheVariants.{Shared, Public}
+use Rattle.org_keys.specs.declared.organisation.OrgKey.TheVariants.{Shared, Public, Bound}
 use Rattle.endorsement_policy.specs.Endorsed.{Listed, is_org, is_tag_of, key_of}
 use Rattle.endorsement_policy.specs.Judge.{orgs_behind}
 use Rattle.orderer.specs.Headers.{hash_at}
@@ -78,6 +78,7 @@ abbrev pub IsPublic : Option OrgKey → Type 0
 IsPublic None = ⊥
 IsPublic (Some (Shared key)) = ⊥
 IsPublic (Some (Public key)) = Unit {0}
+IsPublic (Some (Bound key ledger)) = Unit {0}
 
 abbrev pub IsListedPublic : Listed → List ℕ → Type 0
 IsListedPublic listed org = IsOrgName org × IsPublic (key_of listed.orgs org)

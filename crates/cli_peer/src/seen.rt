@@ -89,6 +89,7 @@ fn is_public(key: &OrgKey) -> bool
 {
     match key {
         OrgKey::Public(_) => true,
+        OrgKey::Bound(_, _) => true,
         OrgKey::Shared(_) => false,
     }
 }

@@ -38,6 +38,10 @@ abbrev pub StepLaw : Type 0
 StepLaw = (marks : List (Mark Envelope)) (old new : Ordering) (mark : Mark Envelope) (reports : List BatchReport) → IsOrdered marks old →
     Takes old mark reports new → IsOrdered (marks ++ mark ∷ []) new
 
+-- what its orderer has read: nothing
+abbrev pub unread : Genesis → Ordering
+unread g = fresh_orderer g.rules.value.edition (limits_of g) g.reorder
+
 -- the state at the opening
 abbrev pub opened : Genesis → State
 opened g =
@@ -46,19 +50,18 @@ opened g =
       rules = g.rules.value;
       seeds = g.signers.value;
       capacity = g.queue;
-      world = opening g.peers.items g.seats (limits_of g) g.reorder;
+      world = opening g.rules.value.edition g.peers.items g.seats (limits_of g) g.reorder;
     }
 
-steps_run : (g : Genesis) → StepLaw → IsOrdered [] (fresh_orderer (limits_of g) g.reorder) → (events : List Event) (replies : List Reply) (w : World) →
-    AreSteps (rules_by g) (opening g.peers.items g.seats (limits_of g) g.reorder) events replies w →
+steps_run : (g : Genesis) → StepLaw → IsOrdered [] (unread g) → (events : List Event) (replies : List Reply) (w : World) →
+    AreSteps (rules_by g) (opened g).world events replies w →
     IsRun (rules_by g) g.peers.items g.seats (limits_of g) g.reorder events replies w false
 steps_run g law began events replies w steps =
     let all : take (length events) events ≡ events = take_all (length events) events (le_refl (length events)) in
-    let start = opening g.peers.items g.seats (limits_of g) g.reorder in
     run_all (rules_by g) g.peers.items g.seats (limits_of g) g.reorder events replies w false (length events) law began
-    (subst (λ (es : List Event). AreSteps (rules_by g) start es replies w) (sym all) steps) refl (le_refl (length events))
+    (subst (λ (es : List Event). AreSteps (rules_by g) (opened g).world es replies w) (sym all) steps) refl (le_refl (length events))
 
-pub whole_run : (g : Genesis) → StepLaw → IsOrdered [] (fresh_orderer (limits_of g) g.reorder) → (IsStored : Option Chain → Type 0) (good : Bool)
+pub whole_run : (g : Genesis) → StepLaw → IsOrdered [] (unread g) → (IsStored : Option Chain → Type 0) (good : Bool)
     (lines : List (List ℕ)) (start end : Stage) (told : List (Event × Reply)) (front rest : List ℕ) → IsOpening g start →
     AreLines lines start told front end → EndsWith g.book.value (first_chain end.system) good rest → IsStored (first_chain end.system) →
     IsWholeRun g IsStored lines good (front ++ rest)
@@ -97,7 +100,7 @@ ends_some book o chain verdict (Ok x) t u v is says state good audit = (
 )
 
 -- what a run does from its opening on is what its lines come to
-pub comes_to : (g : Genesis) → StepLaw → IsOrdered [] (fresh_orderer (limits_of g) g.reorder) → (held : Option (List ℕ))
+pub comes_to : (g : Genesis) → StepLaw → IsOrdered [] (unread g) → (held : Option (List ℕ))
     (IsStored : Option Chain → Type 0) (r : Result Bool Failure) (start end : Stage) (before after : Told) → IsOpening g start →
     IfOk r (λ good. (mid : Told) × DoesAll held start end before mid × EndsPrinted g.book.value (first_chain end.system) good mid after) →
     IfErr r (λ f. IsBrokenOff f ⊎ MeetsBadLine held start before after f) → OnOk r (IsStored (first_chain end.system)) →

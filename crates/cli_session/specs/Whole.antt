@@ -47,7 +47,7 @@ pub record IsOpening (g : Genesis) (s : Stage) : Type 0 where
     rules = g.rules.value;
     seeds = g.signers.value;
     capacity = g.queue;
-    world = opening g.peers.items g.seats (limits_of g) g.reorder;
+    world = opening g.rules.value.edition g.peers.items g.seats (limits_of g) g.reorder;
   }
   pub names : (name : List ℕ) → bound_as s.names name ≡ None
 

@@ -10,8 +10,10 @@ use Rattle.wasm_ast.specs.declared.module.Module.{Module}
 use Rattle.wasm_meaning.specs.Values.{Answering, Program}
 use Rattle.wasm_meaning.specs.Program.{program_of}
 use Rattle.interp.specs.declared.outcome.Outcome.{Outcome}
+use Rattle.host_api.specs.Given.{Given}
 use Rattle.host_api.specs.Recorded.{Recorded, nothing_recorded}
 use Rattle.host_api.specs.HostStep.{host_step}
+use Rattle.simulator.specs.Execution.{given_by}
 use Rattle.chaincode_book.specs.Books.{chaincode_at}
 use Rattle.chaincode_book.specs.declared.book.Chaincode.{Chaincode}
 use Rattle.fab_types.specs.declared.proposal.Call.{Call}
@@ -217,30 +219,31 @@ module _ {R : Type 0} (m : Module) (host : Answering R) (records : R) (fuel most
       (printed_on_err answer (PrintsNothing u v) (PrintsPart t v text) (λ n. part_end t u v text r.prints n) none)
 
 -- what `trace` begins, by a host that was opened on a state without keys
-pub call_begun : (g : Genesis) (call : Call) (most : ℕ) (c : Chaincode) (state : Plain) (argument : Bytes) (records : Recorded) (t u : Told)
-    (r : Result (Unit {0}) Failure) → chaincode_at g.book.value.chaincodes call.chaincode ≡ Some c → state ≡ empty → argument ≡ call.argument →
-    records ≡ nothing_recorded → IsBegun (IsTraceBegun c.«module» (host_step state argument) records c.fuel most) t u r →
+pub call_begun : (g : Genesis) (call : Call) (most : ℕ) (c : Chaincode) (state : Plain) (given : Given) (records : Recorded) (t u : Told)
+    (r : Result (Unit {0}) Failure) → chaincode_at g.book.value.chaincodes call.chaincode ≡ Some c → state ≡ empty →
+    given ≡ given_by g.book.value.edition call → records ≡ nothing_recorded → IsBegun (IsTraceBegun c.«module» (host_step state given) records c.fuel most) t u r →
     IsBegun (TraceBegins g call most) t u r
-call_begun g call most c state argument records t u r found none same nothing =
-    begins_by (IsTraceBegun c.«module» (host_step state argument) records c.fuel most) (TraceBegins g call most) t u r
+call_begun g call most c state given records t u r found none same nothing =
+    begins_by (IsTraceBegun c.«module» (host_step state given) records c.fuel most) (TraceBegins g call most) t u r
     (λ text h. (
       c,
       found,
-      subst (λ (s : Recorded). IsTraceBegun c.«module» (host_step empty call.argument) s c.fuel most text) nothing
-          (subst (λ (a : Bytes). IsTraceBegun c.«module» (host_step empty a) records c.fuel most text) same
-          (subst (λ (m : Plain). IsTraceBegun c.«module» (host_step m argument) records c.fuel most text) none h)),
+      subst (λ (s : Recorded). IsTraceBegun c.«module» (host_step empty (given_by g.book.value.edition call)) s c.fuel most text) nothing
+          (subst (λ (a : Given). IsTraceBegun c.«module» (host_step empty a) records c.fuel most text) same
+          (subst (λ (m : Plain). IsTraceBegun c.«module» (host_step m given) records c.fuel most text) none h)),
     ))
 
 -- what `trace` comes to, by a host that was opened on a state without keys
-pub call_traced : (g : Genesis) (call : Call) (most : ℕ) (c : Chaincode) (state : Plain) (argument : Bytes) (records : Recorded) (t u : Told)
-    (r : Result (Unit {0}) Failure) → chaincode_at g.book.value.chaincodes call.chaincode ≡ Some c → state ≡ empty → argument ≡ call.argument →
-    records ≡ nothing_recorded → IfErr r IsBrokenOff →
-    OnOk r ((text : Bytes) × IsTrace c.«module» (host_step state argument) records c.fuel most text × Prints t u text) → Answers (Traces g call most) t u r
-call_traced g call most c state argument records t u (Err f) found none same nothing lost traces = inl lost
-call_traced g call most c state argument records t u (Ok x) found none same nothing lost traces =
+pub call_traced : (g : Genesis) (call : Call) (most : ℕ) (c : Chaincode) (state : Plain) (given : Given) (records : Recorded) (t u : Told)
+    (r : Result (Unit {0}) Failure) → chaincode_at g.book.value.chaincodes call.chaincode ≡ Some c → state ≡ empty →
+    given ≡ given_by g.book.value.edition call → records ≡ nothing_recorded → IfErr r IsBrokenOff →
+    OnOk r ((text : Bytes) × IsTrace c.«module» (host_step state given) records c.fuel most text × Prints t u text) → Answers (Traces g call most) t u r
+call_traced g call most c state given records t u (Err f) found none same nothing lost traces = inl lost
+call_traced g call most c state given records t u (Ok x) found none same nothing lost traces =
     let text : Bytes = traces.0 in
-    let on : IsTrace c.«module» (host_step empty argument) records c.fuel most text =
-    subst (λ (m : Plain). IsTrace c.«module» (host_step m argument) records c.fuel most text) none traces.1 in
-    let by : IsTrace c.«module» (host_step empty call.argument) records c.fuel most text =
-    subst (λ (a : Bytes). IsTrace c.«module» (host_step empty a) records c.fuel most text) same on in
-    inr (text, (c, found, subst (λ (s : Recorded). IsTrace c.«module» (host_step empty call.argument) s c.fuel most text) nothing by), traces.2)
+    let on : IsTrace c.«module» (host_step empty given) records c.fuel most text =
+    subst (λ (m : Plain). IsTrace c.«module» (host_step m given) records c.fuel most text) none traces.1 in
+    let asked : Given = given_by g.book.value.edition call in
+    let by : IsTrace c.«module» (host_step empty asked) records c.fuel most text =
+    subst (λ (a : Given). IsTrace c.«module» (host_step empty a) records c.fuel most text) same on in
+    inr (text, (c, found, subst (λ (s : Recorded). IsTrace c.«module» (host_step empty asked) s c.fuel most text) nothing by), traces.2)

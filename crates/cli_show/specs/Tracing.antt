@@ -14,12 +14,14 @@ use Rattle.interp.specs.declared.outcome.Outcome.TheVariants.{Returned, Trapped,
 use Rattle.wasm_trace.specs.Reduction.{Config, To, reduce}
 use Rattle.wasm_trace.specs.Names.{Named}
 use Rattle.wasm_trace.specs.Ending.{IsStart, IsEnd}
+use Rattle.host_api.specs.Given.{Given}
 use Rattle.host_api.specs.Recorded.{nothing_recorded}
 use Rattle.host_api.specs.HostStep.{host_step}
 use Rattle.chaincode_book.specs.Books.{chaincode_at}
 use Rattle.chaincode_book.specs.declared.book.Chaincode.{Chaincode}
 use Rattle.ledger_model.specs.Chain.{Bytes}
 use Rattle.ledger_setting.specs.declared.genesis.Genesis.{Genesis}
+use Rattle.simulator.specs.Execution.{given_by}
 use Rattle.simulator.specs.declared.refusal.SimRefusal.TheVariants.{UnknownChaincode}
 use Rattle.cli_lines.specs.declared.failure.Failure.{Failure}
 use Rattle.cli_lines.specs.declared.failure.Failure.TheVariants.{Simulation}
@@ -77,14 +79,14 @@ pub record IsTrace {R : Type 0} (m : Module) (host : Answering R) (records : R) 
   pub ends : IsEnd (program_of m host) end fuel outcome after
   pub is : text ≡ steps_text most (step_texts steps) ++ outcome_text outcome
 
--- of a chaincode whose call has this argument, on the empty state
-abbrev pub IsCallTrace : Chaincode → (argument : Bytes) → (most : ℕ) → Bytes → Type 0
-IsCallTrace c argument most text = IsTrace c.«module» (host_step empty argument) nothing_recorded c.fuel most text
+-- of a chaincode whose call is given this, on the empty state
+abbrev pub IsCallTrace : Chaincode → Given → (most : ℕ) → Bytes → Type 0
+IsCallTrace c given most text = IsTrace c.«module» (host_step empty given) nothing_recorded c.fuel most text
 
 -- `trace`: of the chaincode of the call's name, which is refused exactly where the book has none
 abbrev pub Traces : Genesis → Call → (most : ℕ) → Result (Unit {0}) Failure → Bytes → Type 0
 Traces g call most (Ok done) text =
-    (c : Chaincode) × (chaincode_at g.book.value.chaincodes call.chaincode ≡ Some c) × IsCallTrace c call.argument most text
+    (c : Chaincode) × (chaincode_at g.book.value.chaincodes call.chaincode ≡ Some c) × IsCallTrace c (given_by g.book.value.edition call) most text
 Traces g call most (Err f) text =
     (f ≡ Simulation UnknownChaincode) × (chaincode_at g.book.value.chaincodes call.chaincode ≡ None) × (text ≡ [])
 
@@ -101,7 +103,7 @@ pub record IsTraceBegun {R : Type 0} (m : Module) (host : Answering R) (records 
 abbrev pub TraceBegins : Genesis → Call → (most : ℕ) → Bytes → Type 0
 TraceBegins g call most text =
     (c : Chaincode) × (chaincode_at g.book.value.chaincodes call.chaincode ≡ Some c)
-    × IsTraceBegun c.«module» (host_step empty call.argument) nothing_recorded c.fuel most text
+    × IsTraceBegun c.«module» (host_step empty (given_by g.book.value.edition call)) nothing_recorded c.fuel most text
 
 -- what is printed of the step that was made last, behind so many lines, and how many there are then
 abbrev pub NextStep : Option Bytes → (most printed count : ℕ) → Bytes → Type 0

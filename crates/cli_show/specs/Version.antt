@@ -6,7 +6,7 @@ use Rattle.cli_lines.specs.declared.failure.Failure.{Failure}
 use Rattle.cli_show.specs.Lines.{AreLines}
 use Rattle.cli_show.specs.declared.versioning.TheConstants.{PROGRAM, LINES, RULES, STORE}
 
--- {"lines":2,"program":1,"rules":1,"store":1}
+-- {"lines":2,"program":1,"rules":2,"store":1}
 abbrev pub version_json : (program lines rules store : ℕ) → Data
 version_json program lines rules store =
     object (member (codes "lines") (number (unsigned lines)) (member (codes "program") (number (unsigned program))

@@ -10,7 +10,7 @@ use fab_types::Call;
 use host_api::{PlainMap, Recorder};
 use interp::{Host, Outcome};
 use ledger_setting::Genesis;
-use simulator::{Chaincode, SimRefusal};
+use simulator::{Chaincode, SimRefusal, given_by};
 use std::alloc::Global;
 use std::io::Write;
 use wasm_trace::Stepper;
@@ -34,7 +34,8 @@ pub fn trace<W: Write>(
         return Err(Failure::Simulation(SimRefusal::UnknownChaincode));
     };
     let state = PlainMap::empty(alloc);
-    let mut recorder = Recorder::new(alloc, &state, &call.argument);
+    let given = given_by(genesis.book.edition(), call);
+    let mut recorder = Recorder::new(alloc, &state, given);
     trace_on(alloc, chaincode, &mut recorder, most, out)
 }
 

@@ -18,8 +18,9 @@ const PROGRAM: u8 = 1;
 /// The number of the lines that `peer` reads and prints.
 const LINES: u8 = 2;
 
-/// The number of the ledger's rules: programs of one number make of the same lines the same chain.
-const RULES: u8 = 1;
+/// The newest of the ledger's rules that this program knows. Programs of one number make of the same
+/// lines the same chain, under each rules that both know.
+const RULES: u8 = 2;
 
 /// The number of the bytes of a store.
 const STORE: u8 = 1;

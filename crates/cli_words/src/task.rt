@@ -367,7 +367,7 @@ pub(crate) fn count(digits: &str) -> Result<u32, WordsFault>
     }
 }
 
-/// The number of a block that digits stand for, from 0 to 65,535.
+/// The number of a block that digits stand for, from 0 to 4,000,000,000.
 pub(crate) fn block(digits: &str) -> Result<u32, WordsFault>
     ensures { Reads (SpellsBlock digits.now) result }
 {

@@ -12,7 +12,7 @@ pub(crate) fn rule_of(name: &str) -> &'static str {
         "ARG" => "hex of up to 4096 bytes, or - for none",
         "ROUNDS" | "steps" => "1 to 1000",
         "profile" => "1 or 2",
-        "from" | "to" | "at" => "the number of a block, 0 to 65535",
+        "from" | "to" | "at" => "the number of a block, 0 to 4000000000",
         "nonce" => "hex of 16 bytes",
         "key" => "hex of 1 to 64 bytes",
         _ => "a file",

@@ -9,8 +9,8 @@ ghost use Rattle.world_state.specs.Judging.{IsOf};
 ghost use Rattle.committer.specs.Fits.{blocks_of, Fits, IsNext, IsRefused};
 
 use crate::refusal::CommitRefusal;
-use fab_types::Block;
 use fab_types::limits::LAST_BLOCK;
+use fab_types::{Block, Edition};
 use mvcc_validate::flag_block;
 use std::alloc::{AllocError, Global};
 use wire::{data_hash, next_link};
@@ -53,7 +53,7 @@ fn check_next(snapshot: &Snapshot, block: &Block) -> Result<(), CommitRefusal>
 ///
 /// These are tested in turn, and the first that stands refuses the block:
 ///
-/// - `AtEnd` (604): there are 65,535 blocks.
+/// - `AtEnd` (604): there are 4,000,000,000 blocks.
 /// - `Number` (601): its number is not the next one.
 /// - `PreviousHash` (602): it does not name the hash of the last header, or 32 zero bytes as block
 ///   1.
@@ -73,12 +73,13 @@ pub fn check_fits(alloc: Global, snapshot: &Snapshot, block: &Block) -> Result<(
     Ok(())
 }
 
-/// What a block that fits behind a snapshot is judged to be, where it is known which of its
-/// envelopes are endorsed.
+/// What a block that fits behind a snapshot is judged to be under the rules of an edition, where it
+/// is known which of its envelopes are endorsed.
 ///
 /// It refuses as `check_fits` does, and for want of memory (9) behind that.
 pub fn judge_told(
     alloc: Global,
+    edition: Edition,
     snapshot: &Snapshot,
     block: &Block,
     endorsed: &[bool],
@@ -86,15 +87,15 @@ pub fn judge_told(
     requires one_each { length endorsed.now ≡ length block.now.envelopes }
     ensures flags { IfOk result
         (λ judged. judged.flags.items
-        ≡ flags_told id_of (history snapshot.now) block.now.header.number 0 block.now.envelopes
-        endorsed.now) }
+        ≡ flags_told edition id_of (history snapshot.now) (history snapshot.now)
+        block.now.header.number 0 block.now.envelopes endorsed.now) }
     ensures of { IfOk result (λ judged. IsOf block.now judged) }
     ensures fits { OnOk result (Fits (blocks_of snapshot.now) block.now) }
     ensures refused { IfErr result
         (λ refusal. IsRefused refusal (blocks_of snapshot.now) block.now) }
 {
     check_fits(alloc, snapshot, block)?;
-    Ok(flag_block(alloc, snapshot, block, endorsed)?)
+    Ok(flag_block(alloc, edition, snapshot, block, endorsed)?)
 }
 
 /// The snapshot after one block more, with the flags of its transactions. `snapshot` stays as it
@@ -104,6 +105,7 @@ pub fn judge_told(
 /// call is dropped.
 pub fn commit_on(
     alloc: Global,
+    edition: Edition,
     snapshot: &Snapshot,
     block: Block,
     endorsed: &[bool],
@@ -114,13 +116,13 @@ pub fn commit_on(
         ≡ snapshot.now ++
         record {
           block = block;
-          flags = flags_told id_of (history snapshot.now) block.header.number 0
-              block.envelopes endorsed.now;
+          flags = flags_told edition id_of (history snapshot.now) (history snapshot.now)
+              block.header.number 0 block.envelopes endorsed.now;
         } ∷
         []) }
     ensures fits { OnOk result (Fits (blocks_of snapshot.now) block) }
     ensures refused { IfErr result (λ refusal. IsRefused refusal (blocks_of snapshot.now) block) }
 {
-    let judged = judge_told(alloc, snapshot, &block, endorsed)?;
+    let judged = judge_told(alloc, edition, snapshot, &block, endorsed)?;
     Ok(snapshot.followed_by(alloc, block, judged)?)
 }

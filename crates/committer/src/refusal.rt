@@ -17,7 +17,7 @@ pub enum CommitRefusal {
     PreviousHash = 602,
     /// The hash of its data is not the one that its header names.
     DataHash = 603,
-    /// There are 65,535 blocks already.
+    /// There are 4,000,000,000 blocks already.
     AtEnd = 604,
     /// A growth of memory was refused.
     Memory = 9,

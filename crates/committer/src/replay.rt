@@ -8,7 +8,7 @@ ghost use Rattle.committer.specs.Fits.{blocks_of, Fits, IsRefused};
 
 use crate::commit::judge_told;
 use crate::refusal::CommitRefusal;
-use fab_types::{Block, Flag};
+use fab_types::{Block, Edition, Flag};
 use std::alloc::Global;
 use std::marker::Model;
 use world_state::Snapshot;
@@ -47,26 +47,29 @@ impl Replay {
         &self.snapshot
     }
 
-    /// Commits a block and gives the flags of its transactions, by their places.
+    /// Commits a block under the rules of an edition, and gives the flags of its transactions, by
+    /// their places.
     ///
     /// It refuses as `commit_on` does, and a refusal changes nothing.
     pub fn push(
         &mut self,
         alloc: Global,
+        edition: Edition,
         block: Block,
         endorsed: &[bool],
     ) -> Result<&[Flag], CommitRefusal>
         requires one_each { length endorsed.now ≡ length block.envelopes }
         ensures* after { sem 𝓛
-            (Rests the_row self.entry (λ new. Pushes self.old block endorsed.now result new)) }
+            (Rests the_row self.entry
+            (λ new. Pushes edition self.old block endorsed.now result new)) }
         ensures flags { IfOk result
             (λ flags. flags.now
-            ≡ flags_told id_of (history self.old) block.header.number 0 block.envelopes
-            endorsed.now) }
+            ≡ flags_told edition id_of (history self.old) (history self.old)
+            block.header.number 0 block.envelopes endorsed.now) }
         ensures fits { OnOk result (Fits (blocks_of self.old) block) }
         ensures refused { IfErr result (λ refusal. IsRefused refusal (blocks_of self.old) block) }
     {
-        let judged = judge_told(alloc, &self.snapshot, &block, endorsed)?;
+        let judged = judge_told(alloc, edition, &self.snapshot, &block, endorsed)?;
         self.snapshot.extend(alloc, block, judged)?;
         Ok(last_flags(&self.snapshot))
     }

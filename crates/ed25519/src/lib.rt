@@ -59,13 +59,20 @@ impl SigningKey {
     }
 
     /// The signature of a message (RFC 8032, section 5.1.6).
-    #[tactic(auto, unfolding(crate::specs::Signing::signature))]
     pub fn sign(&self, message: &[u8]) -> [u8; 64]
         ensures { result ≡ signature self.now message.now }
     {
-        let nonce = nonce(&self.prefix, message);
+        self.sign_behind(&[], message)
+    }
+
+    /// The signature of a message in two pieces, which are not copied: the front, and what follows.
+    #[tactic(auto, unfolding(crate::specs::Signing::signature))]
+    pub fn sign_behind(&self, front: &[u8], message: &[u8]) -> [u8; 64]
+        ensures { result ≡ signature self.now (front.now ++ message.now) }
+    {
+        let nonce = nonce(&self.prefix, front, message);
         let commitment = Point::times_base(nonce.number()).encoded();
-        let challenge = challenge(&commitment, &self.public, message);
+        let challenge = challenge(&commitment, &self.public, front, message);
         let response = nonce.plus(&challenge.times(&self.secret));
         joined(&commitment, &response.number().copy().to_bytes())
     }
@@ -88,9 +95,16 @@ pub fn sign(seed: &[u8; 32], message: &[u8]) -> [u8; 64]
 
 /// Whether this is a signature of the message under the public key (RFC 8032, section 5.1.7). Under
 /// a key of small order it tells nothing: see `is_of_small_order`.
-#[tactic(auto, unfolding(crate::specs::Signing::verifies))]
 pub fn verify(public: &[u8; 32], message: &[u8], signature: &[u8; 64]) -> bool
     ensures { result ≡ verifies public.now message.now signature.now }
+{
+    verify_behind(public, &[], message, signature)
+}
+
+/// The same of a message in two pieces, which are not copied: the front, and what follows.
+#[tactic(auto, unfolding(crate::specs::Signing::verifies))]
+pub fn verify_behind(public: &[u8; 32], front: &[u8], message: &[u8], signature: &[u8; 64]) -> bool
+    ensures { result ≡ verifies public.now (front.now ++ message.now) signature.now }
 {
     let commitment = first_half(signature);
     let response = Number::from_bytes(&second_half(signature));
@@ -103,7 +117,7 @@ pub fn verify(public: &[u8; 32], message: &[u8], signature: &[u8; 64]) -> bool
     if !scalar::is_below_order(&response) {
         return false;
     }
-    let challenge = challenge(&commitment, public, message);
+    let challenge = challenge(&commitment, public, front, message);
     Point::times_base(&response).is(&r.plus(&key.times(challenge.number())))
 }
 
@@ -173,22 +187,24 @@ fn pruned(number: &Number) -> Number
 }
 
 #[tactic(auto, unfolding(crate::specs::Signing::nonce))]
-fn nonce(prefix: &[u8; 32], message: &[u8]) -> Scalar
-    ensures { result ≡ nonce prefix.now message.now }
+fn nonce(prefix: &[u8; 32], front: &[u8], message: &[u8]) -> Scalar
+    ensures { result ≡ nonce prefix.now (front.now ++ message.now) }
 {
     let mut hasher = Sha512::new();
     hasher.update(prefix);
+    hasher.update(front);
     hasher.update(message);
     Scalar::from_bytes(&hasher.finalize())
 }
 
 #[tactic(auto, unfolding(crate::specs::Signing::challenge))]
-fn challenge(commitment: &[u8; 32], public: &[u8; 32], message: &[u8]) -> Scalar
-    ensures { result ≡ challenge commitment.now public.now message.now }
+fn challenge(commitment: &[u8; 32], public: &[u8; 32], front: &[u8], message: &[u8]) -> Scalar
+    ensures { result ≡ challenge commitment.now public.now (front.now ++ message.now) }
 {
     let mut hasher = Sha512::new();
     hasher.update(commitment);
     hasher.update(public);
+    hasher.update(front);
     hasher.update(message);
     Scalar::from_bytes(&hasher.finalize())
 }

@@ -6,4 +6,6 @@ pub mod Sources
 pub mod Rights
 pub mod RightOrgs
 pub mod OwnKeys
+pub mod FirstBytes
+pub mod OneLedger
 pub mod Parts

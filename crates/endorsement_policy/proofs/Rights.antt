@@ -16,7 +16,7 @@ use Rattle.policy_language.specs.GoodSets.{Name, Names, is_satisfied, needs_some
 use Rattle.policy_language.specs.declared.policy.Policy.{Policy}
 use Rattle.endorsement_policy.specs.declared.rules.ChaincodePolicy.{ChaincodePolicy}
 use Rattle.endorsement_policy.specs.Endorsed.{Listed, do_need_someone, is_policy_of, is_right, right_orgs, is_met_by, listed_policy}
-use Rattle.endorsement_policy.specs.Endorsed.{defined_policy, policy_in, reads_own, names_no_other}
+use Rattle.endorsement_policy.specs.Endorsed.{defined_policy, policy_in, reads_own, names_no_other, writes_own}
 use Rattle.endorsement_policy.specs.Endorsed.{is_endorsed_as, is_endorsed, CarriesRight}
 use Rattle.endorsement_policy.specs.Membership.{listed_in}
 use Rattle.endorsement_policy.proofs.Definitions.{defined_needs}
@@ -28,7 +28,7 @@ both true b e = (refl, e)
 both false b e = absurd cc
 
 -- what is found passes what all pass
-found_passes : {X : Type 0} (p q : X → Bool) (xs : List X) (x : X) → list_all q xs ≡ true → find p xs ≡ Some x → q x ≡ true
+pub found_passes : {X : Type 0} (p q : X → Bool) (xs : List X) (x : X) → list_all q xs ≡ true → find p xs ≡ Some x → q x ≡ true
 found_passes p q [] x h e = absurd cc
 found_passes {X} p q (y ∷ xs) x h e =
     elim (p y) as (λ b. cond b (Some y) (find p xs) ≡ Some x → q x ≡ true) [
@@ -86,7 +86,8 @@ by_someone : (q : Proposal) (r : Listed) (m : Versioned) (e : Envelope) → do_n
 by_someone (proposal.Call c) r m e need upgrade met =
     let there = values_of m in
     met_by_someone (policy_in r there c.chaincode) (right_orgs r.orgs e) (by_definition r c.chaincode (get there (definition_key c.chaincode)) need)
-    (both (reads_own e.payload && names_no_other e.payload) (is_met_by (right_orgs r.orgs e) (policy_in r there c.chaincode)) met).1
+    (both (reads_own e.payload && names_no_other e.payload && writes_own r.edition c.chaincode e.payload)
+    (is_met_by (right_orgs r.orgs e) (policy_in r there c.chaincode)) met).1
 by_someone (proposal.Upgrade u) r m e need upgrade met =
     met_by_someone (Some r.upgrade) (right_orgs r.orgs e) (λ p is. subst (λ (z : Policy). needs_someone z ≡ true) (same_Some r.upgrade p is) upgrade)
     (upgrade_met r m u e met).agreed

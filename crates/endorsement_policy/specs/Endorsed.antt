@@ -3,10 +3,12 @@ use Rattle.std.specs.Prelude.{◌≡◌, ℕ, List, [], ◌∷◌, Option, Some,
 use Rattle.std.specs.FinMap.{get}
 use Rattle.std.specs.List.{find, filter, list_all, list_any}
 use Rattle.std.specs.Result.{is_ok}
+use Rattle.fab_types.specs.Namespaces.{is_in_namespace, namespace}
 use Rattle.fab_types.specs.Order.{is_shown}
 use Rattle.fab_types.specs.Memberships.{membership_key}
 use Rattle.fab_types.specs.Proposals.{definition_key, own_key}
 use Rattle.fab_types.specs.Touched.{is_older}
+use Rattle.fab_types.specs.declared.edition.Edition.{Edition}
 use Rattle.fab_types.specs.declared.items.ReadItem.{ReadItem}
 use Rattle.fab_types.specs.declared.items.WriteItem.{WriteItem}
 use Rattle.fab_types.specs.declared.proposal.Amend.{Amend}
@@ -89,6 +91,10 @@ writes_shown p = list_all (λ w. is_shown w.key) p.writes
 abbrev pub names_no_other : Payload → Bool
 names_no_other p = reads_no_other p && writes_shown p
 
+-- each key that is written, or deleted, is in the namespace of the chaincode
+abbrev pub writes_own : Edition → (chaincode : Name) → Payload → Bool
+writes_own edition chaincode p = list_all (λ w. is_in_namespace (namespace edition chaincode) w.key) p.writes
+
 abbrev pub is_one_read : List ℕ → List ReadItem → Bool
 is_one_read key [] = false
 is_one_read key (r ∷ []) = bytes_eq r.key key
@@ -129,10 +135,11 @@ is_no_newer (Some s) (Some v) = not (is_older s v)
 abbrev pub reads_no_newer : Versioned → Payload → Bool
 reads_no_newer m p = list_all (λ r. is_no_newer (version_at m r.key) r.version) p.reads
 
--- a call falls under the policy that its chaincode has in the state, whose definition it read
+-- a call falls under the policy that its chaincode has in the state, whose definition it read; it writes in that chaincode's namespace alone
 abbrev pub is_call_endorsed : Listed → Plain → Call → Envelope → Bool
 is_call_endorsed r m c e =
-    reads_own e.payload && names_no_other e.payload && is_met_by (right_orgs r.orgs e) (policy_in r m c.chaincode)
+    reads_own e.payload && names_no_other e.payload && writes_own r.edition c.chaincode e.payload
+    && is_met_by (right_orgs r.orgs e) (policy_in r m c.chaincode)
 
 -- an upgrade to a definition that can be used falls under the policy of upgrades, whatever the chaincode's own policy is; what it read is no
 -- newer than the state

@@ -15,7 +15,8 @@ use Rattle.ledger_model.specs.Views.{Plain}
 use Rattle.policy_language.specs.GoodSets.{Name, Names}
 use Rattle.policy_language.specs.Reading.{policy_in_text}
 use Rattle.policy_language.specs.declared.policy.Policy.{Policy}
-use Rattle.org_keys.specs.Keys.{is_public_key}
+use Rattle.org_keys.specs.Keys.{is_public_key, point_of}
+use Rattle.org_keys.specs.Ledgers.{org_in}
 use Rattle.org_keys.specs.declared.organisation.OrgKey.{OrgKey}
 use Rattle.org_keys.specs.declared.organisation.OrgKey.TheVariants as org_key
 use Rattle.org_keys.specs.declared.organisation.Organisation.{Organisation}
@@ -44,11 +45,14 @@ abbrev pub orgs_by : List Organisation → List Member → List Organisation
 orgs_by orgs [] = []
 orgs_by orgs (m ∷ ms) = with_org (org_by_key orgs m.name m.key) (orgs_by orgs ms)
 
--- one public key
+abbrev pub is_same_point : Option (List ℕ) → Option (List ℕ) → Bool
+is_same_point None other = false
+is_same_point (Some k) None = false
+is_same_point (Some k) (Some l) = bytes_eq k l
+
+-- one public key, whether it is bound or not
 abbrev pub is_same_key : OrgKey → OrgKey → Bool
-is_same_key (org_key.Shared k) other = false
-is_same_key (org_key.Public k) (org_key.Shared l) = false
-is_same_key (org_key.Public k) (org_key.Public l) = bytes_eq k l
+is_same_key a b = is_same_point (point_of a) (point_of b)
 
 -- no two organisations have one public key
 abbrev pub have_own_keys : List Organisation → Bool
@@ -84,9 +88,13 @@ pub record Standing : Type 0 where
   pub orgs : List Organisation
   pub upgrade : Policy
 
+-- the organisations that members are, with their keys as they are in the ledger
+abbrev pub members_in : Listed → List Member → List Organisation
+members_in r members = map (org_in r.edition r.ledger) (orgs_by r.installed.orgs members)
+
 abbrev pub standing_as : Listed → List Member → Option Policy → Standing
 standing_as r members None = record { orgs = r.orgs; upgrade = r.upgrade }
-standing_as r members (Some policy) = record { orgs = orgs_by r.installed.orgs members; upgrade = policy }
+standing_as r members (Some policy) = record { orgs = members_in r members; upgrade = policy }
 
 -- who stands by a membership that can be used, or by none
 abbrev pub standing_by : Listed → Option Membership → Standing
@@ -101,11 +109,12 @@ standing_in r m = standing_by r (usable_membership r.installed.orgs (get m membe
 abbrev pub KeysDiffer : List Organisation → Type 0
 KeysDiffer orgs =
     (i j : ℕ) (a b : Organisation) (k : List ℕ) → slice_get orgs i ≡ Some a → slice_get orgs j ≡ Some b →
-    a.key ≡ org_key.Public k → b.key ≡ org_key.Public k → i ≡ j
+    point_of a.key ≡ Some k → point_of b.key ≡ Some k → i ≡ j
 
 -- what is listed, with those who stand in the place of the genesis' organisations and its policy of upgrades
 abbrev pub with_standing : Listed → Standing → Listed
-with_standing r s = record { orgs = s.orgs; policies = r.policies; upgrade = s.upgrade; installed = r.installed }
+with_standing r s =
+    record { edition = r.edition; ledger = r.ledger; orgs = s.orgs; policies = r.policies; upgrade = s.upgrade; installed = r.installed }
 
 abbrev pub listed_in : Listed → Plain → Listed
 listed_in r m = with_standing r (standing_in r m)

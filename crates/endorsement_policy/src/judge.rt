@@ -6,7 +6,7 @@ ghost use Rattle.std.specs.FinMap.{get};
 ghost use Rattle.fab_types.specs.Memberships.{membership_key};
 ghost use Rattle.ledger_model.specs.Chain.{history};
 ghost use Rattle.ledger_model.specs.State.{state};
-ghost use Rattle.endorsement_policy.specs.Endorsed.{is_amend_endorsed, is_call_endorsed, is_met_by, is_upgrade_endorsed, org_names, reads_no_newer, right_orgs};
+ghost use Rattle.endorsement_policy.specs.Endorsed.{is_amend_endorsed, is_call_endorsed, is_met_by, is_upgrade_endorsed, org_names, reads_no_newer, right_orgs, writes_own};
 ghost use Rattle.endorsement_policy.specs.Installed.{names_known, usable_by};
 ghost use Rattle.endorsement_policy.specs.Judge.{judge_behind, judged_policy, judges, plain_after, policy_from};
 ghost use Rattle.endorsement_policy.specs.Membership.{is_next};
@@ -15,7 +15,7 @@ ghost use Rattle.policy_language.specs.GoodSets.{is_satisfied};
 use crate::evaluate::satisfied;
 use crate::membership::{is_next, membership_value};
 use crate::payloads::{
-    is_amend_payload, is_upgrade_payload, names_no_other, reads_no_newer, reads_own,
+    is_amend_payload, is_upgrade_payload, names_no_other, reads_no_newer, reads_own, writes_own,
 };
 use crate::rules::Rules;
 use crate::source::{Known, Source};
@@ -163,10 +163,20 @@ impl<'a> Judge<'a> {
         if !reads_own(&envelope.payload) || !names_no_other(&envelope.payload) {
             return Ok(false);
         }
+        if !self.writes_own(call, &envelope.payload) {
+            return Ok(false);
+        }
         match self.known(&call.chaincode) {
             Some(source) => is_met_by(alloc, &self.standing, source.policy(), envelope, right),
             None => self.is_met_in_state(alloc, &call.chaincode, envelope, right),
         }
+    }
+
+    /// Whether a call writes in the namespace of its chaincode alone.
+    fn writes_own(&self, call: &Call, payload: &Payload) -> bool
+        ensures { result ≡ writes_own self.now.listed.edition call.now.chaincode payload.now }
+    {
+        writes_own(self.rules.edition(), &call.chaincode, payload)
     }
 
     /// Whether the organisations of which the envelope carries a right tag satisfy the policy that

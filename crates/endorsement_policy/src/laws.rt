@@ -1,16 +1,20 @@
 //! Laws of definitions and of endorsed envelopes.
 
-ghost use Rattle.std.specs.Prelude.{◌≡◌, List, true, ℕ, Some, None, Ok};
+ghost use Rattle.std.specs.Prelude.{◌≡◌, ◌≢◌, List, true, ℕ, Some, None, Ok};
 ghost use Rattle.std.specs.FinMap.{get};
 ghost use Rattle.fab_types.specs.Memberships.{membership_key};
 ghost use Rattle.fab_types.specs.Limits.{IsPolicyText};
+ghost use Rattle.fab_types.specs.Payloads.{Payload};
 ghost use Rattle.fab_types.specs.declared.definition.Definition.{Definition};
+ghost use Rattle.fab_types.specs.declared.edition.Edition.TheVariants.{Second};
 ghost use Rattle.fab_types.specs.declared.envelope.Envelope.{Envelope};
+ghost use Rattle.fab_types.specs.declared.tag.Tag.TheVariants as tag;
 ghost use Rattle.fab_types.specs.declared.membership.Membership.{Membership};
 ghost use Rattle.ledger_model.specs.Views.{Plain, Versioned, values_of};
 ghost use Rattle.fab_types.specs.Spelling.{definition_bytes};
-ghost use Rattle.fab_types.specs.Within.{IsDefinition};
-ghost use Rattle.endorsement_policy.specs.Endorsed.{CarriesRight, Listed, is_endorsed};
+ghost use Rattle.fab_types.specs.Within.{IsDefinition, IsProposal};
+ghost use Rattle.org_keys.specs.Ledgers.{VerifiesTwice};
+ghost use Rattle.endorsement_policy.specs.Endorsed.{CarriesRight, Listed, is_endorsed, is_right};
 ghost use Rattle.endorsement_policy.specs.Membership.{KeysDiffer, listed_in, standing_in, usable_membership};
 ghost use Rattle.endorsement_policy.specs.Installed.{Installed, IsPlaced, names_for, names_known, place_for, usable_by, usable_in};
 ghost use Rattle.policy_language.specs.GoodSets.{Names};
@@ -28,6 +32,25 @@ pub fn an_endorsed_envelope_carries_a_right_tag(rules: &Rules)
 {
     let _policies = rules.policies();
     let _upgrade = rules.upgrade();
+}
+
+/// A signature that is right as a tag in a ledger of rules 2, in whatever state and on whatever
+/// payload, is right in no ledger of another genesis file, but where it verifies for two messages
+/// that differ. The other ledger may be one of rules 1. An HMAC is right wherever its key is
+/// listed.
+pub fn a_signature_is_of_one_ledger(one: &Rules, other: &Rules)
+    ensures { (m n : Plain) (p q : Payload) (a b signature : List ℕ) →
+        one.now.edition ≡ Second → one.now.ledger ≢ other.now.ledger → IsProposal q.proposal →
+        is_right (listed_in one.now m).orgs p
+        (record { org = a; tag = tag.Ed25519 signature }) ≡ true →
+        is_right (listed_in other.now n).orgs q
+        (record { org = b; tag = tag.Ed25519 signature }) ≡ true →
+        VerifiesTwice signature }
+{
+    let _ledger = one.ledger();
+    let _keys = one.organisations();
+    let _other_ledger = other.ledger();
+    let _other_keys = other.organisations();
 }
 
 /// In a state without a membership those of the genesis stand.

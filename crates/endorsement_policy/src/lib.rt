@@ -40,8 +40,8 @@ pub use evaluate::satisfied;
 pub use fault::DefinitionFault;
 pub use installed::{Installed, ModuleId, ModulePlace, Usable};
 pub use laws::{
-    an_endorsed_envelope_carries_a_right_tag, public_keys_differ, unamended,
-    usable_definitions_are_spelled,
+    a_signature_is_of_one_ledger, an_endorsed_envelope_carries_a_right_tag, public_keys_differ,
+    unamended, usable_definitions_are_spelled,
 };
 pub use membership::{is_next, is_usable, membership_value, usable_membership};
 pub use organisations::is_tag;

@@ -1,14 +1,52 @@
 //! Which organisations members are.
 
-ghost use Rattle.std.specs.Prelude.{◌≡◌, [], IfOk};
+ghost use Rattle.std.specs.Prelude.{◌≡◌, ◌&&◌, [], IfOk, map};
 ghost use Rattle.std.specs.List.{list_all, list_any};
-ghost use Rattle.endorsement_policy.specs.Membership.{has_known_key, have_own_keys, is_same_key, org_by_key, orgs_by};
+ghost use Rattle.org_keys.specs.Ledgers.{org_in};
+ghost use Rattle.endorsement_policy.specs.Membership.{has_known_key, have_own_keys, is_same_key};
+ghost use Rattle.endorsement_policy.specs.Membership.{members_in, org_by_key, orgs_by};
 ghost use Rattle.fab_types.specs.declared.membership.MemberKey.TheVariants.{Kept, Public};
 
 use crate::organisations::find_organisation;
+use crate::rules::Rules;
 use fab_types::{Member, MemberKey, OrgName};
 use org_keys::{OrgKey, Organisation, PublicKey};
 use std::alloc::{AllocError, Global};
+
+/// The organisations that members are, with their keys as they are in the ledger, and whether each
+/// member is one and no two have one public key. The only error is want of memory.
+pub(crate) fn members_in(
+    alloc: Global,
+    rules: &Rules,
+    members: &[Member],
+) -> Result<(Vec<Organisation>, bool), AllocError>
+    ensures organisations { IfOk result (λ o. o.0.items ≡ members_in rules.now members.now) }
+    ensures usable { IfOk result (λ o. o.1
+        ≡ (list_all (has_known_key rules.now.installed.orgs) members.now
+        && have_own_keys (orgs_by rules.now.installed.orgs members.now))) }
+{
+    let genesis = rules.installed().organisations();
+    let (found, are_known) = organisations_by(alloc, genesis, members)?;
+    let are_own = have_own_keys(&found);
+    let organisations = in_ledger(alloc, rules, found)?;
+    Ok((organisations, are_known && are_own))
+}
+
+/// Organisations with their keys as they are in the ledger. The only error is want of memory.
+fn in_ledger(
+    alloc: Global,
+    rules: &Rules,
+    organisations: Vec<Organisation>,
+) -> Result<Vec<Organisation>, AllocError>
+    ensures { IfOk result (λ v. v.items
+        ≡ map (org_in rules.now.edition rules.now.ledger) organisations.items) }
+{
+    let mut bound = Vec::with_capacity(alloc, organisations.len())?;
+    'organisations: for organisation in organisations {
+        bound.push(organisation.in_ledger(rules.edition(), rules.ledger()))?;
+    }
+    Ok(bound)
+}
 
 /// The organisations that members are, where the genesis has these, and whether each member is one.
 /// The only error is want of memory.
@@ -94,12 +132,12 @@ fn shares_key(organisation: &Organisation, others: &[Organisation]) -> bool
         .any(|other| is_same_key(&organisation.key, &other.key))
 }
 
-/// Whether both are a public key, the same.
+/// Whether both are a public key, the same, bound or not.
 fn is_same_key(one: &OrgKey, other: &OrgKey) -> bool
     ensures { result ≡ is_same_key one.now other.now }
 {
-    match (one, other) {
-        (OrgKey::Public(one), OrgKey::Public(other)) => one.as_bytes() == other.as_bytes(),
+    match (one.public(), other.public()) {
+        (Some(one), Some(other)) => one.as_bytes() == other.as_bytes(),
         _ => false,
     }
 }

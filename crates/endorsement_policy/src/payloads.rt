@@ -4,9 +4,12 @@ ghost use Rattle.std.specs.Prelude.{◌≡◌, IfOk};
 ghost use Rattle.ledger_model.specs.Chain.{history};
 ghost use Rattle.ledger_model.specs.Flags.{version_at};
 ghost use Rattle.ledger_model.specs.State.{state};
-ghost use Rattle.endorsement_policy.specs.Endorsed.{is_amend_payload, is_no_newer, is_one_put, is_one_read, is_put_payload, is_upgrade_payload, is_value, names_no_other, reads_no_newer, reads_no_other, reads_own, writes_shown};
+ghost use Rattle.endorsement_policy.specs.Endorsed.{is_amend_payload, is_no_newer, is_one_put, is_one_read, is_put_payload, is_upgrade_payload, is_value, names_no_other, reads_no_newer, reads_no_other, reads_own, writes_own, writes_shown};
 
-use fab_types::{Amend, Key, Payload, ReadItem, Upgrade, Value, Version, WriteItem, is_shown};
+use fab_types::{
+    Amend, Edition, Key, Name, Namespace, Payload, ReadItem, Upgrade, Value, Version, WriteItem,
+    is_shown,
+};
 use std::alloc::{AllocError, Global};
 use wire::{encode_definition, encode_membership};
 use world_state::Snapshot;
@@ -43,6 +46,15 @@ pub(crate) fn names_no_other(payload: &Payload) -> bool
     ensures { result ≡ names_no_other payload.now }
 {
     reads_no_other(payload) && writes_shown(payload)
+}
+
+/// Whether each key that is written, or deleted, is in the namespace of the chaincode.
+pub(crate) fn writes_own(edition: Edition, chaincode: &Name, payload: &Payload) -> bool
+    ensures { result ≡ writes_own edition chaincode.now payload.now }
+{
+    let namespace = Namespace::of(edition, chaincode);
+    let writes = payload.writes().as_slice();
+    writes.iter().all(|w| namespace.holds(w.key.as_slice()))
 }
 
 /// Whether each key that is read is no newer than in the state.

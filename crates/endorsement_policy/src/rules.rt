@@ -1,14 +1,15 @@
 //! What the members of a ledger agree on.
 
-ghost use Rattle.std.specs.Prelude.{◌≡◌, ◌↔◌, true, IsSome, IfSome, option_map};
+ghost use Rattle.std.specs.Prelude.{◌≡◌, ◌↔◌, true, IsSome, IfSome, length, option_map};
 ghost use Rattle.std.specs.List.{find};
+ghost use Rattle.org_keys.specs.Ledgers.{are_keys_of};
 ghost use Rattle.endorsement_policy.specs.Listed.{do_need_someone, is_org, is_policy_of};
 ghost use Rattle.policy_language.specs.GoodSets.{needs_someone};
 
 use crate::evaluate::is_satisfied_by;
 use crate::installed::Installed;
 use crate::organisations::find_organisation;
-use fab_types::{Name, OrgName};
+use fab_types::{Edition, Name, OrgName};
 use org_keys::Organisation;
 use policy_language::Policy;
 use std::marker::Model;
@@ -20,11 +21,14 @@ pub struct ChaincodePolicy {
     pub policy: Policy,
 }
 
-/// The organisations with their keys, the policy of each chaincode by the genesis, the policy of
-/// upgrades and amendments, and what every peer has installed, with the organisations among it. Of
-/// several of one name the first counts. Each policy needs at least one endorsement.
+/// The edition of the ledger's rules, the SHA-256 of its genesis file, the organisations with their
+/// keys, the policy of each chaincode by the genesis, the policy of upgrades and amendments, and
+/// what every peer has installed, with the organisations among it. Of several of one name the first
+/// counts. Each policy needs at least one endorsement, and each key is one of this ledger.
 #[derive(Drop)]
 pub struct Rules {
+    edition: Edition,
+    ledger: [u8; 32],
     policies: Vec<ChaincodePolicy>,
     upgrade: Policy,
     installed: Installed,
@@ -32,6 +36,7 @@ pub struct Rules {
 
 impl Model for Rules {
     ghost use Rattle.std.specs.Prelude.{◌≡◌, true};
+    ghost use Rattle.org_keys.specs.Ledgers.{are_keys_of};
     ghost use Rattle.endorsement_policy.specs.Listed.{Listed, do_need_someone};
     ghost use Rattle.policy_language.specs.GoodSets.{needs_someone};
     ghost use Rattle.policy_language.specs.Tree.{policies_code};
@@ -42,6 +47,8 @@ impl Model for Rules {
     ghost coded = { Prim.hlevel (codes, policies_code) };
 
     ghost view = { λ r. record {
+      edition = r.edition;
+      ledger = r.ledger;
       orgs = r.installed.orgs;
       policies = r.policies.items;
       upgrade = r.upgrade;
@@ -49,7 +56,8 @@ impl Model for Rules {
     } };
 
     ghost invariant = { λ r. (do_need_someone r.policies.items ≡ true) ×
-        (needs_someone r.upgrade ≡ true) };
+        (needs_someone r.upgrade ≡ true) ×
+        (are_keys_of r.edition r.ledger r.installed.orgs ≡ true) };
 }
 
 /// Whether the policy needs at least one endorsement.
@@ -66,17 +74,30 @@ fn do_need_someone(policies: &[ChaincodePolicy]) -> bool
     policies.iter().all(|p| needs_someone(&p.policy))
 }
 
+/// Whether each of these has a key that may be one of such a ledger.
+fn are_keys_of(edition: Edition, ledger: &[u8; 32], organisations: &[Organisation]) -> bool
+    ensures { result ≡ are_keys_of edition ledger.now organisations.now }
+{
+    organisations.iter().all(|o| o.key.is_of(edition, ledger))
+}
+
 impl Rules {
-    /// The rules of these policies and organisations. None where some policy is satisfied without
-    /// any endorsement, as one with the threshold 0 is.
+    /// The rules of this edition, of the ledger whose genesis file has this SHA-256, and of these
+    /// policies and organisations. None where some policy is satisfied without any endorsement, as
+    /// one with the threshold 0 is, or some key is none of this ledger.
     pub fn new(
+        ledger: [u8; 32],
+        edition: Edition,
         policies: Vec<ChaincodePolicy>,
         upgrade: Policy,
         installed: Installed,
     ) -> Option<Rules>
         ensures accepted { IsSome result ↔
-            ((do_need_someone policies.items ≡ true) × (needs_someone upgrade ≡ true)) }
+            ((do_need_someone policies.items ≡ true) × (needs_someone upgrade ≡ true)
+            × (are_keys_of edition ledger installed.orgs ≡ true)) }
         ensures value { IfSome result (λ r. r ≡ record {
+          edition = edition;
+          ledger = ledger;
           orgs = installed.orgs;
           policies = policies.items;
           upgrade = upgrade;
@@ -89,17 +110,38 @@ impl Rules {
         if !needs_someone(&upgrade) {
             return None;
         }
+        if !are_keys_of(edition, &ledger, installed.organisations()) {
+            return None;
+        }
         Some(Rules {
+            edition,
+            ledger,
             policies,
             upgrade,
             installed,
         })
     }
 
-    /// The organisations, which are those that are installed.
+    /// The edition of the ledger's rules.
+    pub fn edition(&self) -> Edition
+        ensures { result ≡ self.now.edition }
+    {
+        self.edition
+    }
+
+    /// The SHA-256 of the genesis file.
+    pub fn ledger(&self) -> &[u8; 32]
+        ensures value { result.now ≡ self.now.ledger }
+        ensures size { length self.now.ledger ≡ 32 }
+    {
+        &self.ledger
+    }
+
+    /// The organisations, which are those that are installed. Each has a key of this ledger.
     pub fn organisations(&self) -> &[Organisation]
         ensures value { result.now ≡ self.now.orgs }
         ensures installed { self.now.installed.orgs ≡ self.now.orgs }
+        ensures keys { are_keys_of self.now.edition self.now.ledger self.now.orgs ≡ true }
     {
         self.installed.organisations()
     }

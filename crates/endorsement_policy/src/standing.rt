@@ -6,7 +6,7 @@ ghost use Rattle.endorsement_policy.specs.Endorsed.{is_org, org_names};
 ghost use Rattle.endorsement_policy.specs.Judge.{plain_after};
 ghost use Rattle.endorsement_policy.specs.Membership.{is_usable, standing_by, standing_in};
 
-use crate::members::{have_own_keys, organisations_by};
+use crate::members::members_in;
 use crate::membership::{membership_policy, membership_value, spelled_membership};
 use crate::organisations::{find_organisation, names_of};
 use crate::rules::Rules;
@@ -103,13 +103,11 @@ impl<'a> Standing<'a> {
         let Some(upgrade) = membership_policy(alloc, membership)? else {
             return Ok(Standing::by_genesis(rules));
         };
-        let genesis = rules.installed().organisations();
-        let Ok((organisations, are_known)) = organisations_by(alloc, genesis, members) else {
+        let Ok((organisations, are_usable)) = members_in(alloc, rules, members) else {
             drop(upgrade);
             return Err(AllocError);
         };
-        let are_own = have_own_keys(&organisations);
-        if is_tested & !(are_known & are_own) {
+        if is_tested & !are_usable {
             drop(organisations);
             drop(upgrade);
             return Ok(Standing::by_genesis(rules));

@@ -15,20 +15,22 @@ use Rattle.envelope_ordering.specs.Given.{IsRejected, WasGiven, WasCut}
 use Rattle.envelope_ordering.proofs.Parting.{push_taken, push_refused, by_same}
 
 pub one_taken : (given : List Envelope) (e : Envelope) (old new : Ordering) (missing after : ℕ)
-    → ((marks : List (Mark Envelope)) → IsOrdered marks old → IsOrdered (marks ++ message e ∷ []) new) → new.limits ≡ old.limits → new.reorder ≡ old.reorder →
-    after ≡ missing → envelope_size e ≤ old.limits.absolute → WasGiven given old missing → WasGiven (given ++ e ∷ []) new after
-one_taken given e old new missing after step limits reorder kept fits h = (
+    → ((marks : List (Mark Envelope)) → IsOrdered marks old → IsOrdered (marks ++ message e ∷ []) new) → new.edition ≡ old.edition
+    → new.limits ≡ old.limits → new.reorder ≡ old.reorder → after ≡ missing → envelope_size e ≤ old.limits.absolute → WasGiven given old missing
+    → WasGiven (given ++ e ∷ []) new after
+one_taken given e old new missing after step edition limits reorder kept fits h = (
   h.0 ++ e ∷ [],
   h.1,
-  by_same old.limits new.limits old.reorder new.reorder (given ++ e ∷ []) (h.0 ++ e ∷ []) h.1 limits reorder (push_taken e fits h.2),
+  by_same old.edition new.edition old.limits new.limits old.reorder new.reorder (given ++ e ∷ []) (h.0 ++ e ∷ []) h.1 edition limits reorder
+      (push_taken e fits h.2),
   subst (λ (marks : List (Mark Envelope)). IsOrdered marks new) (sym (map-append message h.0 (e ∷ []))) (step (map message h.0) h.3),
   kept ∙ h.4,
 )
 
 rejected : (cause : OrderCause) (old : Ordering) (e : Envelope) (ordered : List Envelope) → IsRefused cause old (message e) → cause ≢ Memory →
-    IsOrdered (map message ordered) old → IsRejected old.limits old.reorder ordered e
+    IsOrdered (map message ordered) old → IsRejected old.edition old.limits old.reorder ordered e
 rejected TooLarge old e ordered why other is = inl why
-rejected NoNumber old e ordered why other is = inr (old, refl, refl, is, why)
+rejected NoNumber old e ordered why other is = inr (old, refl, refl, refl, is, why)
 rejected Memory old e ordered why other is = absurd (other refl)
 
 pub one_refused : (given : List Envelope) (e : Envelope) (old new : Ordering) (missing after : ℕ) (cause : OrderCause) → new ≡ old →
@@ -38,18 +40,18 @@ one_refused given e old new missing after cause same counted why other h =
     subst (λ (o : Ordering). WasGiven (given ++ e ∷ []) o after) (sym same) (
       h.0,
       h.1 ++ e ∷ [],
-      push_refused old.limits old.reorder [] h.0 e refl (rejected cause old e h.0 why other h.3) h.2,
+      push_refused old.edition old.limits old.reorder [] h.0 e refl (rejected cause old e h.0 why other h.3) h.2,
       h.3,
       omega (arith, counted, h.4, length-append h.1 (e ∷ [])),
     )
 
 pub one_timeout : (given : List Envelope) (old new : Ordering) (missing after : ℕ)
-    → ((marks : List (Mark Envelope)) → IsOrdered marks old → IsOrdered (marks ++ timeout ∷ []) new) → new.limits ≡ old.limits → new.reorder ≡ old.reorder →
-    after ≡ missing → WasGiven given old missing → WasCut given new after
-one_timeout given old new missing after step limits reorder kept h = (
+    → ((marks : List (Mark Envelope)) → IsOrdered marks old → IsOrdered (marks ++ timeout ∷ []) new) → new.edition ≡ old.edition
+    → new.limits ≡ old.limits → new.reorder ≡ old.reorder → after ≡ missing → WasGiven given old missing → WasCut given new after
+one_timeout given old new missing after step edition limits reorder kept h = (
   h.0,
   h.1,
-  by_same old.limits new.limits old.reorder new.reorder given h.0 h.1 limits reorder h.2,
+  by_same old.edition new.edition old.limits new.limits old.reorder new.reorder given h.0 h.1 edition limits reorder h.2,
   inl (step (map message h.0) h.3),
   kept ∙ h.4,
 )

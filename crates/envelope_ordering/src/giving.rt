@@ -18,7 +18,8 @@ pub fn give(orderer: &mut Orderer, missing: &mut u64, envelope: Envelope) -> Res
         (λ _. (given : List Envelope) → WasGiven given orderer.old missing.old →
         WasGiven (given ++ envelope ∷ []) orderer.new missing.new) }
     ensures longer { IsPrefix orderer.old.chain orderer.new.chain }
-    ensures same { (orderer.new.limits ≡ orderer.old.limits) ×
+    ensures same { (orderer.new.edition ≡ orderer.old.edition) ×
+        (orderer.new.limits ≡ orderer.old.limits) ×
         (orderer.new.reorder ≡ orderer.old.reorder) }
     ensures unchanged { OnErr result (orderer.new ≡ orderer.old) }
     ensures uncounted { OnErr result (missing.new ≡ missing.old) }
@@ -44,7 +45,7 @@ pub fn give(orderer: &mut Orderer, missing: &mut u64, envelope: Envelope) -> Res
 }
 
 /// Cuts the envelopes that wait for their batch, as a timeout does. Where their block would need a
-/// number past the last one, they wait on.
+/// number past the last one that the rules allow, they wait on.
 ///
 /// The error is of memory, and changes nothing.
 pub fn cut(orderer: &mut Orderer) -> Result<(), AllocError>
@@ -52,7 +53,8 @@ pub fn cut(orderer: &mut Orderer) -> Result<(), AllocError>
         (λ _. (given : List Envelope) (missing : ℕ) → WasGiven given orderer.old missing →
         WasCut given orderer.new missing) }
     ensures longer { IsPrefix orderer.old.chain orderer.new.chain }
-    ensures same { (orderer.new.limits ≡ orderer.old.limits) ×
+    ensures same { (orderer.new.edition ≡ orderer.old.edition) ×
+        (orderer.new.limits ≡ orderer.old.limits) ×
         (orderer.new.reorder ≡ orderer.old.reorder) }
     ensures unchanged { OnErr result (orderer.new ≡ orderer.old) }
 {

@@ -5,6 +5,7 @@ use Rattle.std.specs.List.{AllByRecursion}
 use Rattle.std.proofs.lemmas.Bool.{cases_lt}
 use Rattle.std.proofs.lemmas.List.{take-append-le, take_all}
 use Rattle.fab_types.specs.declared.block.Block.{Block}
+use Rattle.fab_types.specs.declared.edition.Edition.{Edition}
 use Rattle.fab_types.specs.declared.proposal.Proposal.{Proposal}
 use Rattle.batch_cutter.specs.Division.{Limits, Mark, message, timeout}
 use Rattle.ledger_model.specs.Chain.{Bytes, Envelope, Committed, Chain, Placed, transactions_from, history}
@@ -113,13 +114,14 @@ older_more before next old here k c there =
           (subst (λ (d : Committed). IsOlderAt before (k + 1) d) last.1 (subst (λ (n : ℕ). IsOlderAt before (n + 1) next) (sym last.0) here))
     ]
 
-onto_older : (id : Proposal → Bytes) (endorsed : List Placed → Envelope → Bool) (before : Chain) (blocks : List Block) → AreLegal blocks →
-    ConflictsAreOlder before → ConflictsAreOlder (judge_onto (table id endorsed) before blocks)
-onto_older id endorsed before [] are old = old
-onto_older id endorsed before (b ∷ blocks) are old =
-    let next : Committed = record { block = b; flags = judge (table id endorsed (history before)) (history before) (length before + 1) 0 b.envelopes } in
-    onto_older id endorsed (before ++ next ∷ []) blocks are.1
-    (older_more before next old (block_legal id (endorsed (history before)) (history before) (length before + 1) b.envelopes are.0))
+onto_older : (edition : Edition) (id : Proposal → Bytes) (endorsed : List Placed → Envelope → Bool) (before : Chain) (blocks : List Block) → AreLegal blocks →
+    ConflictsAreOlder before → ConflictsAreOlder (judge_onto (table edition id endorsed) before blocks)
+onto_older edition id endorsed before [] are old = old
+onto_older edition id endorsed before (b ∷ blocks) are old =
+    let ts = history before in
+    let next : Committed = record { block = b; flags = judge (table edition id endorsed ts) ts (length before + 1) 0 b.envelopes } in
+    onto_older edition id endorsed (before ++ next ∷ []) blocks are.1
+    (older_more before next old (block_legal edition id (endorsed (history before)) (history before) (length before + 1) b.envelopes are.0))
 
 no_block : {A : Type 0} (k : ℕ) (c : Committed) → slice_get [] k ≡ Some c → A
 no_block k c e = absurd (cc)
@@ -130,19 +132,20 @@ none_older k c there = no_block k c there
 same_Some : {X : Type 0} (x y : X) → Some x ≡ Some y → x ≡ y
 same_Some x y e = cc
 
-older_if : (id : Proposal → Bytes) (endorsed : List Placed → Envelope → Bool) (r : Rules) (w : World) (o : Option PeerState) (chain : Chain) →
-    r.rule ≡ table id endorsed → AreLegal w.orderer.chain → option_map (λ q. chain_at r w q.height) o ≡ Some chain → ConflictsAreOlder chain
-older_if id endorsed r w None chain rule are is = absurd (cc)
-older_if id endorsed r w (Some q) chain rule are is =
+older_if : (edition : Edition) (id : Proposal → Bytes) (endorsed : List Placed → Envelope → Bool) (r : Rules) (w : World) (o : Option PeerState)
+    (chain : Chain) →
+    r.rule ≡ table edition id endorsed → AreLegal w.orderer.chain → option_map (λ q. chain_at r w q.height) o ≡ Some chain → ConflictsAreOlder chain
+older_if edition id endorsed r w None chain rule are is = absurd (cc)
+older_if edition id endorsed r w (Some q) chain rule are is =
     subst ConflictsAreOlder (same_Some _ _ is)
     (subst (λ (u : BlockRule). ConflictsAreOlder (chain_of_first u w.orderer.chain q.height)) (sym rule)
-    (onto_older id endorsed [] (take q.height w.orderer.chain) (take_legal q.height w.orderer.chain are) none_older))
+    (onto_older edition id endorsed [] (take q.height w.orderer.chain) (take_legal q.height w.orderer.chain are) none_older))
 
 -- so it is with each chain of a run
-pub older_run : (id : Proposal → Bytes) (endorsed : List Placed → Envelope → Bool) (r : Rules) (orgs : List Bytes) (seats : ℕ) (limits : Limits)
-    (reorder : Bool) (events : List Event) (replies : List Reply) (w : World) (refused : Bool) → r.rule ≡ table id endorsed →
+pub older_run : (edition : Edition) (id : Proposal → Bytes) (endorsed : List Placed → Envelope → Bool) (r : Rules) (orgs : List Bytes) (seats : ℕ)
+    (limits : Limits) (reorder : Bool) (events : List Event) (replies : List Reply) (w : World) (refused : Bool) → r.rule ≡ table edition id endorsed →
     IsRun r orgs seats limits reorder events replies w refused → reorder ≡ true → (peer : ℕ) (chain : Chain) → chain_of r w peer ≡ Some chain →
     ConflictsAreOlder chain
-older_run id endorsed r orgs seats limits reorder events replies w refused rule run on peer chain is =
-    let legal = run_keeps IsArranging arranging_kept r (opening orgs seats limits reorder) run.done replies w (on, tt) run.steps in
-    older_if id endorsed r w (slice_get w.peers peer) chain rule legal.1 is
+older_run edition id endorsed r orgs seats limits reorder events replies w refused rule run on peer chain is =
+    let legal = run_keeps IsArranging arranging_kept r (opening r.edition orgs seats limits reorder) run.done replies w (on, tt) run.steps in
+    older_if edition id endorsed r w (slice_get w.peers peer) chain rule legal.1 is

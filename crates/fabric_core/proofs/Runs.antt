@@ -265,11 +265,11 @@ honest_at exec alone listed carries seeds capacity w es replies new steps n =
       handed = all_handed exec (right_of listed) replies chain given [] chain;
       serial = λ genuine.
           let handed = all_handed exec (right_of listed) replies chain given [] chain genuine in
-          let now = judged_current id_of endorsed chain flags in
+          let now = judged_current listed.edition id_of endorsed chain flags in
           let both = reruns_and_map exec chain alone now handed in
           record { agree = both.0; same = reruns_same exec chain alone now handed; map = both.1 };
       genuine = λ unforged.
-          let all = judged_endorsed id_of endorsed [] chain flags in
+          let all = judged_endorsed listed.edition id_of endorsed [] chain flags in
           all_genuine listed replies [] chain carries all unforged;
     }
 
@@ -429,8 +429,8 @@ drop_left (suc i) (x ∷ xs) h e = drop_left i xs (omega arith) e
 
 -- a run of all events
 pub run_all : (r : Rules) (orgs : List Bytes) (seats : ℕ) (limits : Limits) (reorder : Bool) (events : List Event) (replies : List Reply) (w : World)
-    (refused : Bool) (i : ℕ) → StepLaw → IsOrdered [] (fresh_orderer limits reorder) →
-    AreSteps r (opening orgs seats limits reorder) (take i events) replies w → refused ≡ false → length events ≤ i →
+    (refused : Bool) (i : ℕ) → StepLaw → IsOrdered [] (fresh_orderer r.edition limits reorder) →
+    AreSteps r (opening r.edition orgs seats limits reorder) (take i events) replies w → refused ≡ false → length events ≤ i →
     IsRun r orgs seats limits reorder events replies w refused
 run_all r orgs seats limits reorder events replies w refused i law start steps fine end =
     record {
@@ -439,7 +439,7 @@ run_all r orgs seats limits reorder events replies w refused i law start steps f
       order = take-append-drop i events;
       steps = steps;
       whole = (λ h. drop_end i events end, λ h. fine);
-      ordered = run_ordered law r [] (opening orgs seats limits reorder) (take i events) replies w start steps;
+      ordered = run_ordered law r [] (opening r.edition orgs seats limits reorder) (take i events) replies w start steps;
     }
 
 true_false : true ≡ false → ⊥
@@ -447,8 +447,8 @@ true_false e = cc
 
 -- a run that ended where memory was refused
 pub run_part : (r : Rules) (orgs : List Bytes) (seats : ℕ) (limits : Limits) (reorder : Bool) (events : List Event) (replies : List Reply) (w : World)
-    (refused : Bool) (i : ℕ) → StepLaw → IsOrdered [] (fresh_orderer limits reorder) →
-    AreSteps r (opening orgs seats limits reorder) (take i events) replies w → refused ≡ true → i < length events →
+    (refused : Bool) (i : ℕ) → StepLaw → IsOrdered [] (fresh_orderer r.edition limits reorder) →
+    AreSteps r (opening r.edition orgs seats limits reorder) (take i events) replies w → refused ≡ true → i < length events →
     IsRun r orgs seats limits reorder events replies w refused
 run_part r orgs seats limits reorder events replies w refused i law start steps bad more =
     record {
@@ -457,7 +457,7 @@ run_part r orgs seats limits reorder events replies w refused i law start steps 
       order = take-append-drop i events;
       steps = steps;
       whole = (λ h. absurd (true_false (sym bad ∙ h)), λ h. drop_left i events more h);
-      ordered = run_ordered law r [] (opening orgs seats limits reorder) (take i events) replies w start steps;
+      ordered = run_ordered law r [] (opening r.edition orgs seats limits reorder) (take i events) replies w start steps;
     }
 
 -- the chains of a run are honest
@@ -466,4 +466,5 @@ pub honest_of : (exec : Exec) → ReadsAlone exec → (listed : Listed) → DoCa
     (refused : Bool) → IsRun (rules_of exec listed seeds capacity) orgs seats limits reorder events replies w refused → (peer : ℕ) (chain : Chain) →
     chain_of (rules_of exec listed seeds capacity) w peer ≡ Some chain → IsHonest exec (table_of listed) (right_of listed) replies chain
 honest_of exec alone listed carries seeds capacity orgs seats limits reorder events replies w refused run peer chain is =
-    honest_if exec alone listed carries seeds capacity (opening orgs seats limits reorder) run.done replies w run.steps (slice_get w.peers peer) chain is
+    honest_if exec alone listed carries seeds capacity (opening listed.edition orgs seats limits reorder) run.done replies w run.steps
+    (slice_get w.peers peer) chain is

@@ -54,7 +54,7 @@ pub record IsRun (r : Rules) (orgs : List Bytes) (seats : ℕ) (limits : Limits)
   pub done : List Event
   pub rest : List Event
   pub order : done ++ rest ≡ events
-  pub steps : AreSteps r (opening orgs seats limits reorder) done replies world
+  pub steps : AreSteps r (opening r.edition orgs seats limits reorder) done replies world
   pub whole : (refused ≡ false) ↔ (rest ≡ [])
   pub ordered : IsOrdered (marks_of [] done replies) world.orderer
 

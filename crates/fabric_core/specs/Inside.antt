@@ -22,9 +22,10 @@ pub record State : Type 0 where
   pub capacity : ℕ
   pub world : World
 
--- the rules with these chaincodes, organisations and policies, these seeds at hand, and this queue
+-- the rules with these chaincodes, what is listed, these seeds at hand, and this queue
 abbrev pub rules_of : Exec → Listed → Seeds → ℕ → Rules
-rules_of exec listed seeds capacity = record { exec = exec; rule = table_of listed; seal = seal_of listed seeds; capacity = capacity }
+rules_of exec listed seeds capacity =
+    record { edition = listed.edition; exec = exec; rule = table_of listed; seal = seal_of listed seeds; capacity = capacity }
 
 -- a call takes a step of the abstract world: with this event, and this reply
 abbrev pub TakesStep : (old new : State) → Event → Reply → Type 0

@@ -2,6 +2,8 @@
 use Rattle.std.specs.Prelude.{◌≡◌, ℕ, ◌≤◌, ◌<◌, Bool, List, [], ◌∷◌, ◌++◌, Option, Some, None, Result, Ok, Err, ◌+◌, option_map, map, take, length, nat_lt}
 use Rattle.std.specs.Prelude.{slice_get, slice_set, if◌then◌else◌, replicate}
 use Rattle.std.specs.Option.{option_to_list}
+use Rattle.fab_types.specs.Editions.{last_block}
+use Rattle.fab_types.specs.declared.edition.Edition.{Edition}
 use Rattle.fab_types.specs.declared.proposal.Proposal.{Proposal}
 use Rattle.fab_types.specs.Payloads.{Payload}
 use Rattle.fab_types.specs.declared.block.Block.{Block}
@@ -27,6 +29,7 @@ use Rattle.simulator.specs.Answers.{payload_or_refusal}
 
 -- what the genesis fixes
 pub record Rules : Type 0 where
+  pub edition : Edition
   pub exec : Exec
   pub rule : BlockRule
   -- what, in a state, a peer of an organisation puts on a payload
@@ -56,13 +59,13 @@ abbrev pub fresh : ℕ → Bytes → PeerState
 fresh seats org = record { org = org; height = 0; seats = replicate seats None }
 
 -- an orderer that was given nothing
-abbrev pub fresh_orderer : Limits → Bool → Ordering
-fresh_orderer limits reorder = record { reorder = reorder; limits = limits; pending = []; chain = [] }
+abbrev pub fresh_orderer : Edition → Limits → Bool → Ordering
+fresh_orderer edition limits reorder = record { edition = edition; reorder = reorder; limits = limits; pending = []; chain = [] }
 
 -- a peer of each of these organisations; nothing was begun, sent, taken or committed
-abbrev pub opening : List Bytes → ℕ → Limits → Bool → World
-opening orgs seats limits reorder =
-    record { peers = map (fresh seats) orgs; queue = []; orderer = fresh_orderer limits reorder }
+abbrev pub opening : Edition → List Bytes → ℕ → Limits → Bool → World
+opening edition orgs seats limits reorder =
+    record { peers = map (fresh seats) orgs; queue = []; orderer = fresh_orderer edition limits reorder }
 
 -- the first n of these blocks, with their flags
 abbrev pub chain_of_first : BlockRule → List Block → ℕ → Chain
@@ -118,11 +121,11 @@ submit r w e = if nat_lt (length w.queue) r.capacity then (Queued, record w { qu
 
 -- Take, where this envelope is the front of the queue and these stand behind it: the orderer takes it in and the
 -- batches that it ends are reported, or it is handed back, since it is too large or a block would be needed past the last
--- number
+-- one that the rules allow
 abbrev pub IsTakenIn : World → Envelope → List Envelope → Reply → World → Type 0
 IsTakenIn w e es (Ordered reports) new =
-    (orderer : Ordering) × Takes w.orderer (message e) reports orderer × (envelope_size e ≤ w.orderer.limits.absolute) × (length orderer.chain ≤ 65535) ×
-    (new ≡ record w { queue = es; orderer = orderer })
+    (orderer : Ordering) × Takes w.orderer (message e) reports orderer × (envelope_size e ≤ w.orderer.limits.absolute) ×
+    (length orderer.chain ≤ last_block w.orderer.edition) × (new ≡ record w { queue = es; orderer = orderer })
 IsTakenIn w e es (TooLarge given) new =
     (given ≡ e) × (w.orderer.limits.absolute < envelope_size e) × (new ≡ record w { queue = es })
 IsTakenIn w e es (NoBlockLeft given) new =
@@ -133,10 +136,11 @@ abbrev pub TakesFront : World → List Envelope → Reply → World → Type 0
 TakesFront w [] reply new = (reply ≡ Nothing) × (new ≡ w)
 TakesFront w (e ∷ es) reply new = IsTakenIn w e es reply new
 
--- Tick: the batch that the timeout cuts, if any, is reported, or a block would be needed past the last number
+-- Tick: the batch that the timeout cuts, if any, is reported, or a block would be needed past the last one that the rules allow
 abbrev pub TimesOut : World → Option BatchReport → World → Type 0
 TimesOut w report new =
-    (orderer : Ordering) × Takes w.orderer timeout (option_to_list report) orderer × (length orderer.chain ≤ 65535) × (new ≡ record w { orderer = orderer })
+    (orderer : Ordering) × Takes w.orderer timeout (option_to_list report) orderer × (length orderer.chain ≤ last_block w.orderer.edition) ×
+    (new ≡ record w { orderer = orderer })
 
 abbrev pub IsTicked : World → Reply → World → Type 0
 IsTicked w Nothing new = TimesOut w None new

@@ -3,6 +3,7 @@
 ghost use Rattle.std.specs.Prelude.{◌≡◌, ◌≤◌, [], IfErr, IfOk, OnErr, OnOk, option_map, length};
 ghost use Rattle.std.specs.Option.{option_to_list};
 ghost use Rattle.batch_cutter.specs.Division.{timeout};
+ghost use Rattle.fab_types.specs.Editions.{last_block};
 ghost use Rattle.wire.specs.Links.{AreLinked};
 ghost use Rattle.orderer.specs.Ordering.{Takes, IsRefused};
 ghost use Rattle.ledger_setting.specs.Limits.{limits_of};
@@ -81,7 +82,7 @@ impl Model for System {
 fn timed_out(orderer: &mut Orderer) -> Result<Option<BatchReport>, OrderCause>
     ensures taken { IfOk result
         (λ report. Takes orderer.old timeout (option_to_list report) orderer.new) }
-    ensures numbers { OnOk result (length orderer.new.chain ≤ LAST_BLOCK) }
+    ensures numbers { OnOk result (length orderer.new.chain ≤ last_block orderer.old.edition) }
     ensures refused { IfErr result (λ cause. IsRefused cause orderer.old timeout) }
     ensures unchanged { OnErr result (orderer.new ≡ orderer.old) }
 {
@@ -106,8 +107,8 @@ impl System {
               rules = genesis.now.rules.value;
               seeds = genesis.now.signers.value;
               capacity = genesis.now.queue;
-              world = opening genesis.now.peers.items genesis.now.seats
-                  (limits_of genesis.now) genesis.now.reorder;
+              world = opening genesis.now.rules.value.edition genesis.now.peers.items
+                  genesis.now.seats (limits_of genesis.now) genesis.now.reorder;
             }) }
     {
         let mut peers = Vec::new(alloc);
@@ -123,8 +124,9 @@ impl System {
             capacity: genesis.queue,
             peers,
             queue: VecDeque::new(alloc),
-            orderer: Orderer::new(
+            orderer: Orderer::with_edition(
                 alloc,
+                genesis.rules.edition(),
                 genesis.count,
                 genesis.preferred,
                 genesis.absolute,

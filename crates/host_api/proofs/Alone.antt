@@ -20,8 +20,9 @@ use Rattle.ledger_model.specs.Execution as ledger
 use Rattle.ledger_model.proofs.Keys.{tie_same}
 use Rattle.host_api.specs.declared.refusal.Refusal.{Refusal}
 use Rattle.host_api.specs.declared.refusal.Refusal.TheVariants as refusal
+use Rattle.host_api.specs.Given.{Given}
 use Rattle.host_api.specs.Recorded.{Asked, Recorded, nothing_recorded, key_seen, range_seen, seen_on}
-use Rattle.host_api.specs.HostStep.{with_key, with_write, says, or_trap, span_bytes, is_key, is_bound, is_value, is_limit, value_reply, read_key, write}
+use Rattle.host_api.specs.HostStep.{with_key, with_write, says, or_trap, span_bytes, is_key, is_own_key, is_bound, is_value, is_limit, value_reply, read_key, write}
 use Rattle.host_api.specs.HostStep.{ask_range, replies, reply_range_bytes, refuses, get_state, put_state, del_state, range_state, set_result, nth, host_step}
 use Rattle.host_api.specs.Executing.{ending_of, outcome_of, execution, outcome, ReadsAlone}
 
@@ -117,19 +118,20 @@ module _ (m n : Plain) where
       cond_good s (is_key key) (read_key m key target capacity memory s) (refuses refusal.KeyLength memory s) (read_key n key target capacity memory s)
       (refuses refusal.KeyLength memory s) (read_good key target capacity memory s) (refused refusal.KeyLength memory s)
 
-  put_good : (key bytes memory : List ℕ) (s : Recorded) → Good m n s (put_state key bytes memory s) (put_state key bytes memory s)
-  put_good key bytes memory s =
+  put_good : (namespace key bytes memory : List ℕ) (s : Recorded) →
+      Good m n s (put_state namespace key bytes memory s) (put_state namespace key bytes memory s)
+  put_good namespace key bytes memory s =
       let w : WriteItem = record { key = key; value = Some bytes } in
       let put = cond (is_value bytes) (write w memory s) (refuses refusal.ValueLength memory s) in
-      cond_good s (is_key key) put (refuses refusal.KeyLength memory s) put (refuses refusal.KeyLength memory s)
+      cond_good s (is_own_key namespace key) put (refuses refusal.KeyLength memory s) put (refuses refusal.KeyLength memory s)
       (cond_good s (is_value bytes) (write w memory s) (refuses refusal.ValueLength memory s) (write w memory s) (refuses refusal.ValueLength memory s)
       (write_good w memory s) (refused refusal.ValueLength memory s)) (refused refusal.KeyLength memory s)
 
-  del_good : (key memory : List ℕ) (s : Recorded) → Good m n s (del_state key memory s) (del_state key memory s)
-  del_good key memory s =
+  del_good : (namespace key memory : List ℕ) (s : Recorded) → Good m n s (del_state namespace key memory s) (del_state namespace key memory s)
+  del_good namespace key memory s =
       let w : WriteItem = record { key = key; value = None } in
-      cond_good s (is_key key) (write w memory s) (refuses refusal.KeyLength memory s) (write w memory s) (refuses refusal.KeyLength memory s)
-      (write_good w memory s) (refused refusal.KeyLength memory s)
+      cond_good s (is_own_key namespace key) (write w memory s) (refuses refusal.KeyLength memory s) (write w memory s)
+      (refuses refusal.KeyLength memory s) (write_good w memory s) (refused refusal.KeyLength memory s)
 
   asked_good : (a : Asked) (target capacity : ℕ) (memory : List ℕ) (s : Recorded) →
       Good m n s (range_state m a target capacity memory s) (range_state n a target capacity memory s)
@@ -141,23 +143,23 @@ module _ (m n : Plain) where
       (cond_good s (is_limit a.limit) one (refuses refusal.Limit memory s) other (refuses refusal.Limit memory s) (range_good a target capacity memory s)
       (refused refusal.Limit memory s)) (refused refusal.KeyLength memory s)
 
-  pub host_follows : (argument : Bytes) → Follows (host_step m argument) (host_step n argument) (Agree m n)
-  host_follows argument call.GetState args memory s =
+  pub host_follows : (given : Given) → Follows (host_step m given) (host_step n given) (Agree m n)
+  host_follows given call.GetState args memory s =
       given_good (span_bytes (nth args 0) (nth args 1) memory) memory s _ _
       (λ key. given_good (span_bytes (nth args 2) (nth args 3) memory) memory s _ _ (λ room. get_good key (nth args 2) (nth args 3) memory s))
-  host_follows argument call.PutState args memory s =
+  host_follows given call.PutState args memory s =
       given_good (span_bytes (nth args 0) (nth args 1) memory) memory s _ _
-      (λ key. given_good (span_bytes (nth args 2) (nth args 3) memory) memory s _ _ (λ bytes. put_good key bytes memory s))
-  host_follows argument call.DelState args memory s =
-      given_good (span_bytes (nth args 0) (nth args 1) memory) memory s _ _ (λ key. del_good key memory s)
-  host_follows argument call.RangeState args memory s =
+      (λ key. given_good (span_bytes (nth args 2) (nth args 3) memory) memory s _ _ (λ bytes. put_good given.namespace key bytes memory s))
+  host_follows given call.DelState args memory s =
+      given_good (span_bytes (nth args 0) (nth args 1) memory) memory s _ _ (λ key. del_good given.namespace key memory s)
+  host_follows given call.RangeState args memory s =
       given_good (span_bytes (nth args 0) (nth args 1) memory) memory s _ _
       (λ start. given_good (span_bytes (nth args 2) (nth args 3) memory) memory s _ _
       (λ end. given_good (span_bytes (nth args 5) (nth args 6) memory) memory s _ _
       (λ room. asked_good (record { start = start; end = end; limit = nth args 4 }) (nth args 5) (nth args 6) memory s)))
-  host_follows argument call.GetArg args memory s =
-      given_good (span_bytes (nth args 0) (nth args 1) memory) memory s _ _ (λ room. still s (replies argument (nth args 0) (nth args 1) memory s) refl)
-  host_follows argument call.SetResult args memory s =
+  host_follows given call.GetArg args memory s =
+      given_good (span_bytes (nth args 0) (nth args 1) memory) memory s _ _ (λ room. still s (replies given.argument (nth args 0) (nth args 1) memory s) refl)
+  host_follows given call.SetResult args memory s =
       given_good (span_bytes (nth args 0) (nth args 1) memory) memory s _ _ (λ bytes. result_good bytes memory s)
 
   -- the answers that one state gave are the other's: the two agree
@@ -200,12 +202,12 @@ module _ (m n : Plain) where
   ended_same fuel (Returns left s l w) is h = absurd is
   ended_same fuel Stuck is h = absurd is
 
-  only : (wasm : Module) (fuel : ℕ) (argument : Bytes) → IsValid wasm → ledger.Answers n (outcome wasm fuel argument m).seen →
-      outcome wasm fuel argument n ≡ outcome wasm fuel argument m
-  only wasm fuel argument valid h =
-      let is = invocation_ends wasm (host_step m argument) nothing_recorded fuel valid in
-      let i = ended_same fuel (execution wasm fuel argument m) is h in
-      let j = invocation_follows wasm (host_step m argument) (host_step n argument) (Agree m n) (host_follows argument) nothing_recorded fuel i.0 in
+  only : (wasm : Module) (fuel : ℕ) (given : Given) → IsValid wasm → ledger.Answers n (outcome wasm fuel given m).seen →
+      outcome wasm fuel given n ≡ outcome wasm fuel given m
+  only wasm fuel given valid h =
+      let is = invocation_ends wasm (host_step m given) nothing_recorded fuel valid in
+      let i = ended_same fuel (execution wasm fuel given m) is h in
+      let j = invocation_follows wasm (host_step m given) (host_step n given) (Agree m n) (host_follows given) nothing_recorded fuel i.0 in
       ap (outcome_of fuel n) (sym j) ∙ i.1
 
 -- what a state answers is so on it
@@ -230,6 +232,6 @@ outcome_true fuel m (Trapped why left w) = seen_true m w.records
 outcome_true fuel m (Spent w) = seen_true m w.records
 outcome_true fuel m Stuck = seen_true m nothing_recorded
 
-pub outcome_reads_alone : (wasm : Module) (fuel : ℕ) (argument : Bytes) → IsValid wasm → ReadsAlone wasm fuel argument
-outcome_reads_alone wasm fuel argument valid =
-    record { truthful = λ m. outcome_true fuel m (execution wasm fuel argument m); only = λ m n h. only m n wasm fuel argument valid h }
+pub outcome_reads_alone : (wasm : Module) (fuel : ℕ) (given : Given) → IsValid wasm → ReadsAlone wasm fuel given
+outcome_reads_alone wasm fuel given valid =
+    record { truthful = λ m. outcome_true fuel m (execution wasm fuel given m); only = λ m n h. only m n wasm fuel given valid h }

@@ -16,8 +16,9 @@ use Rattle.ledger_model.specs.Chain.{Bytes}
 use Rattle.ledger_model.specs.Views.{Plain, first}
 use Rattle.std.specs.FinMap.{get}
 use Rattle.host_api.specs.declared.refusal.Refusal.TheVariants as refusal
+use Rattle.host_api.specs.Given.{Given}
 use Rattle.host_api.specs.Recorded.{Asked, Recorded}
-use Rattle.host_api.specs.HostStep.{nth, with_key, with_write, says, refuses, span_bytes, or_trap, is_key, is_value, is_bound, is_limit, replies, value_reply}
+use Rattle.host_api.specs.HostStep.{nth, with_key, with_write, says, refuses, span_bytes, or_trap, is_key, is_own_key, is_value, is_bound, is_limit, replies, value_reply}
 use Rattle.host_api.specs.HostStep.{read_key, write, reply_range_bytes, ask_range, get_state, put_state, del_state, range_state, set_result, host_step}
 use Rattle.host_api.specs.Reach.{reach}
 
@@ -78,20 +79,21 @@ module _ (front rest : List ℕ) where
       cond_behind (nat_le (length (with_write w s.writes)) 64) (says 0 (front ++ rest) t) (refuses refusal.NoRoom (front ++ rest) s) (says 0 front t)
       (refuses refusal.NoRoom front s) refl refl
 
-  put_behind : (key bytes : Bytes) (s : Recorded) → put_state key bytes (front ++ rest) s ≡ behind rest (put_state key bytes front s)
-  put_behind key bytes s =
+  put_behind : (namespace key bytes : Bytes) (s : Recorded) →
+      put_state namespace key bytes (front ++ rest) s ≡ behind rest (put_state namespace key bytes front s)
+  put_behind namespace key bytes s =
       let w : WriteItem = record { key = key; value = Some bytes } in
       let put = cond_behind (is_value bytes) (write w (front ++ rest) s) (refuses refusal.ValueLength (front ++ rest) s) (write w front s)
       (refuses refusal.ValueLength front s) (write_behind w s) refl in
-      cond_behind (is_key key) (cond (is_value bytes) (write w (front ++ rest) s) (refuses refusal.ValueLength (front ++ rest) s))
+      cond_behind (is_own_key namespace key) (cond (is_value bytes) (write w (front ++ rest) s) (refuses refusal.ValueLength (front ++ rest) s))
       (refuses refusal.KeyLength (front ++ rest) s) (cond (is_value bytes) (write w front s) (refuses refusal.ValueLength front s))
       (refuses refusal.KeyLength front s) put refl
 
-  del_behind : (key : Bytes) (s : Recorded) → del_state key (front ++ rest) s ≡ behind rest (del_state key front s)
-  del_behind key s =
+  del_behind : (namespace key : Bytes) (s : Recorded) → del_state namespace key (front ++ rest) s ≡ behind rest (del_state namespace key front s)
+  del_behind namespace key s =
       let w : WriteItem = record { key = key; value = None } in
-      cond_behind (is_key key) (write w (front ++ rest) s) (refuses refusal.KeyLength (front ++ rest) s) (write w front s) (refuses refusal.KeyLength front s)
-      (write_behind w s) refl
+      cond_behind (is_own_key namespace key) (write w (front ++ rest) s) (refuses refusal.KeyLength (front ++ rest) s) (write w front s)
+      (refuses refusal.KeyLength front s) (write_behind w s) refl
 
   ask_behind : (m : Plain) (a : Asked) (target capacity : ℕ) (s : Recorded) → target + capacity ≤ length front →
       ask_range m a target capacity (front ++ rest) s ≡ behind rest (ask_range m a target capacity front s)
@@ -118,54 +120,54 @@ module _ (front rest : List ℕ) where
       (refuses refusal.ValueLength front s) refl refl
 
   -- each call whose bytes lie at the beginning
-  step_behind : (m : Plain) (argument : Bytes) (which : HostCall) (args : List ℕ) (s : Recorded) → reach which args ≤ length front →
-      host_step m argument which args (front ++ rest) s ≡ behind rest (host_step m argument which args front s)
-  step_behind m argument call.GetState args s h =
+  step_behind : (m : Plain) (given : Given) (which : HostCall) (args : List ℕ) (s : Recorded) → reach which args ≤ length front →
+      host_step m given which args (front ++ rest) s ≡ behind rest (host_step m given which args front s)
+  step_behind m given call.GetState args s h =
       given_behind (nth args 0) (nth args 1) s _ _ (omega (arith, h))
       (λ key. given_behind (nth args 2) (nth args 3) s _ _ (omega (arith, h)) (λ room. get_behind m key (nth args 2) (nth args 3) s (omega (arith, h))))
-  step_behind m argument call.PutState args s h =
+  step_behind m given call.PutState args s h =
       given_behind (nth args 0) (nth args 1) s _ _ (omega (arith, h))
-      (λ key. given_behind (nth args 2) (nth args 3) s _ _ (omega (arith, h)) (λ bytes. put_behind key bytes s))
-  step_behind m argument call.DelState args s h =
-      given_behind (nth args 0) (nth args 1) s _ _ (omega (arith, h)) (λ key. del_behind key s)
-  step_behind m argument call.RangeState args s h =
+      (λ key. given_behind (nth args 2) (nth args 3) s _ _ (omega (arith, h)) (λ bytes. put_behind given.namespace key bytes s))
+  step_behind m given call.DelState args s h =
+      given_behind (nth args 0) (nth args 1) s _ _ (omega (arith, h)) (λ key. del_behind given.namespace key s)
+  step_behind m given call.RangeState args s h =
       given_behind (nth args 0) (nth args 1) s _ _ (omega (arith, h))
       (λ start. given_behind (nth args 2) (nth args 3) s _ _ (omega (arith, h))
       (λ end. given_behind (nth args 5) (nth args 6) s _ _ (omega (arith, h))
       (λ room. range_behind m (record { start = start; end = end; limit = nth args 4 }) (nth args 5) (nth args 6) s (omega (arith, h)))))
-  step_behind m argument call.GetArg args s h =
-      given_behind (nth args 0) (nth args 1) s _ _ (omega (arith, h)) (λ room. replies_behind argument (nth args 0) (nth args 1) s (omega (arith, h)))
-  step_behind m argument call.SetResult args s h =
+  step_behind m given call.GetArg args s h =
+      given_behind (nth args 0) (nth args 1) s _ _ (omega (arith, h)) (λ room. replies_behind given.argument (nth args 0) (nth args 1) s (omega (arith, h)))
+  step_behind m given call.SetResult args s h =
       given_behind (nth args 0) (nth args 1) s _ _ (omega (arith, h)) (λ bytes. result_behind bytes s)
 
   -- the whole memory
-  step_whole : (m : Plain) (argument : Bytes) (which : HostCall) (args : List ℕ) (s : Recorded) → rest ≡ [] →
-      host_step m argument which args (front ++ rest) s ≡ behind rest (host_step m argument which args front s)
-  step_whole m argument which args s none =
+  step_whole : (m : Plain) (given : Given) (which : HostCall) (args : List ℕ) (s : Recorded) → rest ≡ [] →
+      host_step m given which args (front ++ rest) s ≡ behind rest (host_step m given which args front s)
+  step_whole m given which args s none =
       let all : front ++ rest ≡ front = ap (λ zs. front ++ zs) none ∙ append-nil front in
-      let r : Reply Recorded = host_step m argument which args front s in
+      let r : Reply Recorded = host_step m given which args front s in
       let same : r.memory ++ rest ≡ r.memory = ap (λ zs. r.memory ++ zs) none ∙ append-nil r.memory in
-      ap (λ zs. host_step m argument which args zs s) all
+      ap (λ zs. host_step m given which args zs s) all
       ∙ sym (ap {A = List ℕ} {B = Reply Recorded} (λ zs. record { answer = r.answer; memory = zs; records = r.records }) same)
 
 -- a call that was given a beginning of the memory, which its bytes do not leave or which is all of it
-pub step_lent : (m : Plain) (argument : Bytes) (which : HostCall) (args memory lent new : List ℕ) (s t : Recorded) (a : HostAnswer) →
+pub step_lent : (m : Plain) (given : Given) (which : HostCall) (args memory lent new : List ℕ) (s t : Recorded) (a : HostAnswer) →
     lent ≡ take (length lent) memory → min (reach which args) (length memory) ≤ length lent → length new ≡ length lent →
-    host_step m argument which args lent s ≡ record { answer = a; memory = new; records = t } →
-    host_step m argument which args memory s ≡
+    host_step m given which args lent s ≡ record { answer = a; memory = new; records = t } →
+    host_step m given which args memory s ≡
     record { answer = a; memory = in_place (take (length lent) memory) new ++ drop (length lent) memory; records = t }
-step_lent m argument which args memory lent new s t a el reaches same e =
+step_lent m given which args memory lent new s t a el reaches same e =
     let rest : List ℕ = drop (length lent) memory in
     let split : memory ≡ lent ++ drop (length lent) memory = sym (ap (λ zs. zs ++ drop (length lent) memory) el ∙ take-append-drop (length lent) memory) in
     let put : in_place (take (length lent) memory) new ≡ new =
     take_at new (drop (length new) (take (length lent) memory)) (length (take (length lent) memory)) (same ∙ ap length el) in
-    let step : host_step m argument which args (lent ++ drop (length lent) memory) s ≡
-    behind (drop (length lent) memory) (host_step m argument which args lent s) =
+    let step : host_step m given which args (lent ++ drop (length lent) memory) s ≡
+    behind (drop (length lent) memory) (host_step m given which args lent s) =
     elim (cases_lt (length lent) (reach which args))
-    as (λ _. host_step m argument which args (lent ++ drop (length lent) memory) s ≡
-    behind (drop (length lent) memory) (host_step m argument which args lent s)) [
-      | inl past ↦ step_whole lent (drop (length lent) memory) m argument which args s (drop_all (length lent) memory (omega (arith, past, reaches)))
-      | inr le ↦ step_behind lent (drop (length lent) memory) m argument which args s le
+    as (λ _. host_step m given which args (lent ++ drop (length lent) memory) s ≡
+    behind (drop (length lent) memory) (host_step m given which args lent s)) [
+      | inl past ↦ step_whole lent (drop (length lent) memory) m given which args s (drop_all (length lent) memory (omega (arith, past, reaches)))
+      | inr le ↦ step_behind lent (drop (length lent) memory) m given which args s le
     ] in
-    ap (λ zs. host_step m argument which args zs s) split ∙ step ∙ ap (behind (drop (length lent) memory)) e
+    ap (λ zs. host_step m given which args zs s) split ∙ step ∙ ap (behind (drop (length lent) memory)) e
     ∙ sym (ap {A = List ℕ} {B = Reply Recorded} (λ zs. record { answer = a; memory = zs ++ drop (length lent) memory; records = t }) put)

@@ -4,9 +4,9 @@ use Rattle.wasm_ast.specs.declared.module.Module.{Module}
 use Rattle.wasm_ast.specs.Traps.{trap_number}
 use Rattle.wasm_meaning.specs.Values.{Answer, Next, Branch, Returns, Trapped, Spent, Stuck}
 use Rattle.wasm_meaning.specs.Program.{invocation}
-use Rattle.ledger_model.specs.Chain.{Bytes}
 use Rattle.ledger_model.specs.Views.{Plain}
 use Rattle.ledger_model.specs.Execution as ledger
+use Rattle.host_api.specs.Given.{Given}
 use Rattle.host_api.specs.Recorded.{Recorded, nothing_recorded, seen_on}
 use Rattle.host_api.specs.HostStep.{host_step}
 
@@ -30,13 +30,13 @@ outcome_of fuel m (Returns left s l w) = outcome_with ledger.Unknown m nothing_r
 outcome_of fuel m Stuck = outcome_with ledger.Unknown m nothing_recorded
 
 -- `invoke` on a fresh instance, with a host that has recorded nothing
-abbrev pub execution : Module → (fuel : ℕ) → (argument : Bytes) → Plain → Answer Recorded
-execution wasm fuel argument m = invocation wasm (host_step m argument) nothing_recorded fuel
+abbrev pub execution : Module → (fuel : ℕ) → (given : Given) → Plain → Answer Recorded
+execution wasm fuel given m = invocation wasm (host_step m given) nothing_recorded fuel
 
-abbrev pub outcome : Module → (fuel : ℕ) → (argument : Bytes) → Plain → ledger.Outcome
-outcome wasm fuel argument m = outcome_of fuel m (execution wasm fuel argument m)
+abbrev pub outcome : Module → (fuel : ℕ) → (given : Given) → Plain → ledger.Outcome
+outcome wasm fuel given m = outcome_of fuel m (execution wasm fuel given m)
 
 -- what it saw is so, and on each state where that is so it comes to the same
-pub record ReadsAlone (wasm : Module) (fuel : ℕ) (argument : Bytes) : Type 0 where
-  pub truthful : (m : Plain) → ledger.Answers m (outcome wasm fuel argument m).seen
-  pub only : (m n : Plain) → ledger.Answers n (outcome wasm fuel argument m).seen → outcome wasm fuel argument n ≡ outcome wasm fuel argument m
+pub record ReadsAlone (wasm : Module) (fuel : ℕ) (given : Given) : Type 0 where
+  pub truthful : (m : Plain) → ledger.Answers m (outcome wasm fuel given m).seen
+  pub only : (m n : Plain) → ledger.Answers n (outcome wasm fuel given m).seen → outcome wasm fuel given n ≡ outcome wasm fuel given m

@@ -4,6 +4,7 @@ use Rattle.std.specs.Prelude.{get_or}
 use Rattle.std.specs.List.{flat_map}
 use Rattle.std.specs.Ordering.{eq_by_cmp}
 use Rattle.std.specs.FinMap.{get}
+use Rattle.fab_types.specs.Namespaces.{is_in_namespace}
 use Rattle.fab_types.specs.Order.{key_cmp, is_before, is_shown}
 use Rattle.fab_types.specs.declared.items.WriteItem.{WriteItem}
 use Rattle.wasm_ast.specs.declared.host_call.HostCall.TheVariants as call
@@ -15,6 +16,7 @@ use Rattle.ledger_model.specs.Views.{Plain, first}
 use Rattle.host_api.specs.declared.refusal.Refusal.{Refusal}
 use Rattle.host_api.specs.declared.refusal.Refusal.TheVariants as refusal
 use Rattle.host_api.specs.Refusals.{refusal_number}
+use Rattle.host_api.specs.Given.{Given}
 use Rattle.host_api.specs.Recorded.{Asked, Recorded}
 
 -- an item in its place among others in key order; an earlier one of its key is replaced
@@ -53,6 +55,10 @@ or_trap (Some bytes) memory s reply = reply bytes
 -- a key has 1 to 64 bytes, and does not begin with the byte 0
 abbrev pub is_key : Bytes → Bool
 is_key bytes = nat_le 1 (length bytes) && nat_le (length bytes) 64 && is_shown bytes
+
+-- a key that is written is in the chaincode's namespace
+abbrev pub is_own_key : (namespace bytes : Bytes) → Bool
+is_own_key namespace bytes = is_key bytes && is_in_namespace namespace bytes
 
 -- a bound has up to 64 bytes, which may begin with the byte 0
 abbrev pub is_bound : Bytes → Bool
@@ -107,14 +113,14 @@ abbrev pub get_state : Plain → (key : Bytes) → (target capacity : ℕ) → (
 get_state m key target capacity memory s =
     if is_key key then read_key m key target capacity memory s else refuses refusal.KeyLength memory s
 
-abbrev pub put_state : (key bytes memory : List ℕ) → Recorded → Reply Recorded
-put_state key bytes memory s =
-    if is_key key then (if is_value bytes then write (record { key = key; value = Some bytes }) memory s else refuses refusal.ValueLength memory s) else
-    refuses refusal.KeyLength memory s
+abbrev pub put_state : (namespace key bytes memory : List ℕ) → Recorded → Reply Recorded
+put_state namespace key bytes memory s =
+    if is_own_key namespace key then (if is_value bytes then write (record { key = key; value = Some bytes }) memory s else
+    refuses refusal.ValueLength memory s) else refuses refusal.KeyLength memory s
 
-abbrev pub del_state : (key memory : List ℕ) → Recorded → Reply Recorded
-del_state key memory s =
-    if is_key key then write (record { key = key; value = None }) memory s else refuses refusal.KeyLength memory s
+abbrev pub del_state : (namespace key memory : List ℕ) → Recorded → Reply Recorded
+del_state namespace key memory s =
+    if is_own_key namespace key then write (record { key = key; value = None }) memory s else refuses refusal.KeyLength memory s
 
 abbrev pub range_state : Plain → Asked → (target capacity : ℕ) → (memory : List ℕ) → Recorded → Reply Recorded
 range_state m a target capacity memory s =
@@ -128,23 +134,23 @@ set_result bytes memory s =
 abbrev pub nth : List ℕ → ℕ → ℕ
 nth args i = get_or args i 0
 
--- The host's step, on the plain state at which the chaincode runs and with the argument of its proposal. Every pair of a
--- pointer and a length is tested first, that of a target and its capacity too.
-abbrev pub host_step : Plain → (argument : Bytes) → Answering Recorded
-host_step m argument call.GetState args memory s =
+-- The host's step, on the plain state at which the chaincode runs and with what that is given. Every pair of a pointer and a
+-- length is tested first, that of a target and its capacity too.
+abbrev pub host_step : Plain → Given → Answering Recorded
+host_step m given call.GetState args memory s =
     or_trap (span_bytes (nth args 0) (nth args 1) memory) memory s
     (λ key. or_trap (span_bytes (nth args 2) (nth args 3) memory) memory s (λ room. get_state m key (nth args 2) (nth args 3) memory s))
-host_step m argument call.PutState args memory s =
+host_step m given call.PutState args memory s =
     or_trap (span_bytes (nth args 0) (nth args 1) memory) memory s
-    (λ key. or_trap (span_bytes (nth args 2) (nth args 3) memory) memory s (λ bytes. put_state key bytes memory s))
-host_step m argument call.DelState args memory s =
-    or_trap (span_bytes (nth args 0) (nth args 1) memory) memory s (λ key. del_state key memory s)
-host_step m argument call.RangeState args memory s =
+    (λ key. or_trap (span_bytes (nth args 2) (nth args 3) memory) memory s (λ bytes. put_state given.namespace key bytes memory s))
+host_step m given call.DelState args memory s =
+    or_trap (span_bytes (nth args 0) (nth args 1) memory) memory s (λ key. del_state given.namespace key memory s)
+host_step m given call.RangeState args memory s =
     or_trap (span_bytes (nth args 0) (nth args 1) memory) memory s
     (λ start. or_trap (span_bytes (nth args 2) (nth args 3) memory) memory s
     (λ end. or_trap (span_bytes (nth args 5) (nth args 6) memory) memory s
     (λ room. range_state m (record { start = start; end = end; limit = nth args 4 }) (nth args 5) (nth args 6) memory s)))
-host_step m argument call.GetArg args memory s =
-    or_trap (span_bytes (nth args 0) (nth args 1) memory) memory s (λ room. replies argument (nth args 0) (nth args 1) memory s)
-host_step m argument call.SetResult args memory s =
+host_step m given call.GetArg args memory s =
+    or_trap (span_bytes (nth args 0) (nth args 1) memory) memory s (λ room. replies given.argument (nth args 0) (nth args 1) memory s)
+host_step m given call.SetResult args memory s =
     or_trap (span_bytes (nth args 0) (nth args 1) memory) memory s (λ bytes. set_result bytes memory s)

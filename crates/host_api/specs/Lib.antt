@@ -1,5 +1,6 @@
 pub mod Refusals
 pub mod Recorded
+pub mod Given
 pub mod HostStep
 pub mod Recording
 pub mod Executing

@@ -11,13 +11,14 @@ use Rattle.ledger_model.specs.Chain.{Bytes, Version}
 use Rattle.ledger_model.specs.Views.{Versioned}
 use Rattle.ledger_model.specs.Flags.{version_at, entries_at}
 use Rattle.host_api.specs.declared.refusal.Refusal.TheVariants as refusal
+use Rattle.host_api.specs.Given.{Given}
 use Rattle.host_api.specs.Recorded.{Asked, Recorded}
 use Rattle.host_api.specs.HostStep.{refuses, value_reply, replies, reply_range_bytes}
 
 -- what a recorder was opened with
 pub record Opened (V : Type 0) : Type 0 where
   pub view : V
-  pub argument : Bytes
+  pub given : Given
 
 pub record Recording (V : Type 0) : Type 0 where
   pub opened : Opened V

@@ -14,5 +14,5 @@ words_of span = span.pointer ∷ span.len ∷ []
 -- The host's step on the view that a recording was opened with: it leads from old to new, leaves this memory and answers so.
 abbrev pub Steps : {V : Type 0} → (V → Versioned) → (old new : Recording V) → HostCall → (args : List ℕ) → (before after : List ℕ) → HostAnswer → Type 0
 Steps state old new which args before after answer =
-    host_step (values_of (state old.opened.view)) old.opened.argument which args before old.records ≡
+    host_step (values_of (state old.opened.view)) old.opened.given which args before old.records ≡
     record { answer = answer; memory = after; records = new.records }

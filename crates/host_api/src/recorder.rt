@@ -9,10 +9,11 @@ ghost use Rattle.wasm_ast.specs.declared.host_call.HostCall.TheVariants as host_
 ghost use Rattle.wasm_typing.specs.HostCalls.{arity};
 ghost use Rattle.ledger_model.specs.Views.{values_of};
 ghost use Rattle.host_api.specs.Recorded.{Recorded, nothing_recorded, seen_on};
-ghost use Rattle.host_api.specs.HostStep.{is_key, read_key, write, ask_range};
+ghost use Rattle.host_api.specs.HostStep.{is_key, is_own_key, read_key, write, ask_range};
 ghost use Rattle.host_api.specs.Recording.{read_reply, range_reply, key_and_value};
 ghost use Rattle.host_api.specs.Steps.{Steps, words_of};
 
+use crate::given::Given;
 use crate::keyed::search;
 use crate::memory::{Span, reach, reply, span_bytes};
 use crate::ranges::{range_entries, range_reply};
@@ -38,7 +39,7 @@ use wasm_instance::Memory;
 pub struct Recorder<'v, V: View> {
     alloc: Global,
     view: &'v V,
-    argument: &'v Value,
+    given: Given<'v>,
     reads: Vec<ReadItem>,
     ranges: Vec<RangeItem>,
     result: Value,
@@ -49,7 +50,7 @@ pub struct Recorder<'v, V: View> {
 impl<V: View> Debug for Recorder<'_, V> {
     fn fmt<W: Write>(&self, f: &mut Formatter<W>) -> fmt::Result {
         f.debug_struct("Recorder")
-            .field("argument", self.argument)
+            .field("given", &self.given)
             .field("reads", &self.reads)
             .field("ranges", &self.ranges)
             .field("result", &self.result)
@@ -65,7 +66,7 @@ impl<'v, V: View> Model for Recorder<'v, V> {
 
     ghost view = { λ r.
         record {
-          opened = record { view = r.view.now; argument = r.argument.now };
+          opened = record { view = r.view.now; given = r.given };
           records = recorded_of r.reads.items r.ranges.items r.result r.writes.items;
         } };
 
@@ -85,18 +86,18 @@ pub struct Parts {
 impl<'v, V: View> Recorder<'v, V> {
     ghost use Rattle.host_api.specs.Parts.{parts_of};
 
-    /// Nothing recorded yet, for a call with this argument. It takes no memory.
-    pub fn new(alloc: Global, view: &'v V, argument: &'v Value) -> Self
+    /// Nothing recorded yet, for an execution that is given this. It takes no memory.
+    pub fn new(alloc: Global, view: &'v V, given: Given<'v>) -> Self
         ensures { result
             ≡ record {
-              opened = record { view = view.now; argument = argument.now };
+              opened = record { view = view.now; given = given };
               records = nothing_recorded;
             } }
     {
         Recorder {
             alloc,
             view,
-            argument,
+            given,
             reads: Vec::new(alloc),
             ranges: Vec::new(alloc),
             result: Value::new(Vec::new(alloc)).unwrap(),
@@ -200,7 +201,15 @@ impl<'v, V: View> Recorder<'v, V> {
         }
     }
 
-    /// Puts a value at a key.
+    /// Whether chaincode may write these bytes as a key: one that it may read, in its namespace.
+    fn may_write(&self, key: &[u8]) -> bool
+        ensures value { result ≡ is_own_key self.now.opened.given.namespace key.now }
+        ensures limits { result ≡ true → IsKey key.now }
+    {
+        is_key(key) && self.given.is_own(key)
+    }
+
+    /// Puts a value at a key of the chaincode's own.
     fn put_state(&mut self, key: Span, value: Span, memory: &[u8]) -> Result<HostAnswer, AllocError>
         ensures answer { IfOk result
             (Steps V.state self.old self.new host_call.PutState (words_of key ++ words_of value)
@@ -213,7 +222,7 @@ impl<'v, V: View> Recorder<'v, V> {
         let Some(value) = span_bytes(memory, value) else {
             return Ok(HostAnswer::OutOfBounds);
         };
-        if !is_key(key) {
+        if !self.may_write(key) {
             return Ok(negative(Refusal::KeyLength));
         }
         if value.len() > MOST_VALUE_BYTES {
@@ -222,7 +231,7 @@ impl<'v, V: View> Recorder<'v, V> {
         self.write(key, Some(value))
     }
 
-    /// Deletes a key.
+    /// Deletes a key of the chaincode's own.
     fn del_state(&mut self, key: Span, memory: &[u8]) -> Result<HostAnswer, AllocError>
         ensures answer { IfOk result
             (Steps V.state self.old self.new host_call.DelState (words_of key) memory.now
@@ -232,7 +241,7 @@ impl<'v, V: View> Recorder<'v, V> {
         let Some(key) = span_bytes(memory, key) else {
             return Ok(HostAnswer::OutOfBounds);
         };
-        if !is_key(key) {
+        if !self.may_write(key) {
             return Ok(negative(Refusal::KeyLength));
         }
         self.write(key, None)
@@ -341,7 +350,7 @@ impl<'v, V: View> Recorder<'v, V> {
         if span_bytes(memory, room).is_none() {
             return Ok(HostAnswer::OutOfBounds);
         }
-        let argument = self.argument.as_slice();
+        let argument = self.given.argument().as_slice();
         Ok(reply(argument, room, memory))
     }
 
@@ -363,7 +372,7 @@ impl<'v, V: View> Recorder<'v, V> {
     }
 }
 
-/// Whether chaincode may name these bytes as a key: 1 to 64, of which the first is not 0.
+/// Whether chaincode may read these bytes as a key: 1 to 64, of which the first is not 0.
 fn is_key(bytes: &[u8]) -> bool
     ensures value { result ≡ is_key bytes.now }
     ensures limits { result ≡ true → IsKey bytes.now }
@@ -408,7 +417,7 @@ impl<'v, V: View> Host for Recorder<'v, V> {
 
     ghost records = { λ r. r.records };
 
-    ghost answers = { λ r. host_step (values_of (V.state r.opened.view)) r.opened.argument };
+    ghost answers = { λ r. host_step (values_of (V.state r.opened.view)) r.opened.given };
 
     ghost Context = { Opened V };
 

@@ -11,7 +11,8 @@ use wasm_ast::HostAnswer;
 pub enum Refusal {
     /// The key is absent.
     Absent,
-    /// A key or a bound has a wrong length, or a key begins with the byte 0.
+    /// A key or a bound has a wrong length, a key begins with the byte 0, or one that is written is
+    /// not in the chaincode's namespace.
     KeyLength,
     /// There is no room for one more key or range.
     NoRoom,

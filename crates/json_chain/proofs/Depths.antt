@@ -1,10 +1,13 @@
 -- How deep the lines nest.
 use Rattle.std.proofs.Common.{ℕ, ◌≤◌, List, [], ◌∷◌, Option, Some, None, map, codes, arith}
+use Rattle.std.specs.Prelude.{option_and_then}
 use Rattle.fab_types.specs.Version.{Version}
 use Rattle.fab_types.specs.Sets.{Range}
 use Rattle.fab_types.specs.Committed.{Committed}
 use Rattle.fab_types.specs.declared.items.ReadItem.{ReadItem}
 use Rattle.fab_types.specs.declared.items.WriteItem.{WriteItem}
+use Rattle.fab_types.specs.declared.edition.Edition.{Edition}
+use Rattle.fab_types.specs.declared.edition.Edition.TheVariants.{First, Second}
 use Rattle.fab_types.specs.declared.envelope.Envelope.{Envelope}
 use Rattle.fab_types.specs.declared.membership.Member.{Member}
 use Rattle.fab_types.specs.declared.membership.MemberKey.{MemberKey}
@@ -15,8 +18,7 @@ use Rattle.fab_types.specs.declared.proposal.Proposal.{Proposal}
 use Rattle.fab_types.specs.declared.proposal.Proposal.TheVariants as proposal
 use Rattle.policy_language.specs.declared.policy.Policy.{Policy}
 use Rattle.endorsement_policy.specs.declared.installed.ModuleId.{ModuleId}
-use Rattle.org_keys.specs.declared.organisation.OrgKey.{OrgKey}
-use Rattle.org_keys.specs.declared.organisation.OrgKey.TheVariants as key
+use Rattle.org_keys.specs.Keys.{point_of}
 use Rattle.org_keys.specs.declared.organisation.Organisation.{Organisation}
 use Rattle.endorsement_policy.specs.declared.rules.ChaincodePolicy.{ChaincodePolicy}
 use Rattle.endorsement_policy.specs.Endorsed.{Listed, key_of, listed_policy, org_names}
@@ -33,7 +35,7 @@ use Rattle.ledger_model.specs.Chain.{Placed}
 use Rattle.json_chain.specs.Transactions.{endorsement_json, payload_json, placed_transaction_json, proposal_json, transaction_json, with_place}
 use Rattle.json_chain.specs.Transactions.{with_proposal, with_rest}
 use Rattle.json_chain.specs.Blocks.{block_json}
-use Rattle.json_chain.specs.Genesis.{chaincode_json, module_json, named_json, org_json, policy_json, genesis_json}
+use Rattle.json_chain.specs.Genesis.{chaincode_json, module_json, named_json, org_json, policy_json, genesis_json, genesis_members, with_rules}
 use Rattle.wire.specs.Ids.{id_of}
 use Rattle.json_chain.specs.Entries.{placed_write_json}
 use Rattle.json_chain.specs.Writes.{did_json}
@@ -109,16 +111,16 @@ string_low s = omega arith
 module_low : (id : ModuleId) → depth (module_json id) ≤ 1
 module_low id = omega arith
 
-named_low : (name : List ℕ) (k : Option OrgKey) → depth (named_json name k) ≤ 1
+named_low : (name : List ℕ) (k : Option (List ℕ)) → depth (named_json name k) ≤ 1
 named_low name None = omega arith
-named_low name (Some (key.Shared k)) = omega arith
-named_low name (Some (key.Public k)) = omega arith
+named_low name (Some k) = omega arith
 
 org_low : (orgs : List Organisation) (name : List ℕ) → depth (org_json orgs name) ≤ 1
-org_low orgs name = named_low name (key_of orgs name)
+org_low orgs name = named_low name (option_and_then point_of (key_of orgs name))
 
-pub genesis_low : (g : Genesis) → depth (genesis_json g) ≤ 3
-genesis_low g =
+-- under these rules
+genesis_low_by : (edition : Edition) (g : Genesis) → depth (object (with_rules edition g.rules.value.ledger (genesis_members g))) ≤ 3
+genesis_low_by First g =
     let book = g.book.value in
     omega (
       arith,
@@ -127,6 +129,18 @@ genesis_low g =
       items_low (org_json g.rules.value.orgs) 1 (org_low g.rules.value.orgs) (org_names book.installed.orgs),
       items_low string 0 string_low g.peers.items,
     )
+genesis_low_by Second g =
+    let book = g.book.value in
+    omega (
+      arith,
+      pairs_low (chaincode_json g.rules.value.policies) 1 (chaincode_low g.rules.value.policies) book.chaincodes book.installed.modules,
+      items_low module_json 1 module_low book.installed.modules,
+      items_low (org_json g.rules.value.orgs) 1 (org_low g.rules.value.orgs) (org_names book.installed.orgs),
+      items_low string 0 string_low g.peers.items,
+    )
+
+pub genesis_low : (g : Genesis) → depth (genesis_json g) ≤ 3
+genesis_low g = genesis_low_by g.rules.value.edition g
 
 pub placed_write_low : (id : List ℕ) (block place : ℕ) (key : List ℕ) (value : Option (List ℕ)) → depth (placed_write_json id block place key value) ≤ 1
 placed_write_low id block place key value = omega (arith, value_low value)

@@ -1,11 +1,14 @@
 -- The lines have no floats, so each is exactly the compact text of its data.
 use Rattle.std.proofs.Common.{◌≡◌, ℕ, false, List, [], ◌∷◌, Option, Some, None, Result, Ok, Err, IfOk, String, Global, map, codes, string_bytes, refl}
+use Rattle.std.specs.Prelude.{option_and_then}
 use Rattle.std.proofs.Common.{ap, ◌∙◌}
 use Rattle.fab_types.specs.Version.{Version}
 use Rattle.fab_types.specs.Sets.{Range}
 use Rattle.fab_types.specs.Committed.{Committed}
 use Rattle.fab_types.specs.declared.items.ReadItem.{ReadItem}
 use Rattle.fab_types.specs.declared.items.WriteItem.{WriteItem}
+use Rattle.fab_types.specs.declared.edition.Edition.{Edition}
+use Rattle.fab_types.specs.declared.edition.Edition.TheVariants.{First, Second}
 use Rattle.fab_types.specs.declared.envelope.Envelope.{Envelope}
 use Rattle.fab_types.specs.declared.membership.Member.{Member}
 use Rattle.fab_types.specs.declared.membership.MemberKey.{MemberKey}
@@ -16,8 +19,7 @@ use Rattle.fab_types.specs.declared.proposal.Proposal.{Proposal}
 use Rattle.fab_types.specs.declared.proposal.Proposal.TheVariants as proposal
 use Rattle.policy_language.specs.declared.policy.Policy.{Policy}
 use Rattle.endorsement_policy.specs.declared.installed.ModuleId.{ModuleId}
-use Rattle.org_keys.specs.declared.organisation.OrgKey.{OrgKey}
-use Rattle.org_keys.specs.declared.organisation.OrgKey.TheVariants as key
+use Rattle.org_keys.specs.Keys.{point_of}
 use Rattle.org_keys.specs.declared.organisation.Organisation.{Organisation}
 use Rattle.endorsement_policy.specs.declared.rules.ChaincodePolicy.{ChaincodePolicy}
 use Rattle.endorsement_policy.specs.Endorsed.{Listed, key_of, listed_policy, org_names}
@@ -37,7 +39,7 @@ use Rattle.json_chain.specs.Transactions.{endorsement_json, endorsements_json, p
 use Rattle.json_chain.specs.Transactions.{transaction_json, with_place}
 use Rattle.json_chain.specs.Transactions.{with_proposal, with_rest}
 use Rattle.json_chain.specs.Blocks.{block_json}
-use Rattle.json_chain.specs.Genesis.{chaincode_json, module_json, named_json, org_json, policy_json, genesis_json}
+use Rattle.json_chain.specs.Genesis.{chaincode_json, module_json, named_json, org_json, policy_json, genesis_json, genesis_members, with_rules}
 use Rattle.json_chain.specs.Entries.{placed_write_json}
 use Rattle.json_chain.specs.JsonText.{IsJsonText}
 
@@ -117,21 +119,33 @@ policy_plain (Some p) = refl
 chaincode_plain : (policies : List ChaincodePolicy) (c : Chaincode) (id : ModuleId) → has_float (chaincode_json policies c id) ≡ false
 chaincode_plain policies c id = rw (policy_plain (listed_policy policies c.name)) refl
 
-named_plain : (name : List ℕ) (k : Option OrgKey) → has_float (named_json name k) ≡ false
+named_plain : (name : List ℕ) (k : Option (List ℕ)) → has_float (named_json name k) ≡ false
 named_plain name None = refl
-named_plain name (Some (key.Shared k)) = refl
-named_plain name (Some (key.Public k)) = refl
+named_plain name (Some k) = refl
 
-pub genesis_plain : (g : Genesis) → has_float (genesis_json g) ≡ false
-genesis_plain g =
+-- under these rules
+genesis_plain_by : (edition : Edition) (g : Genesis) → has_float (object (with_rules edition g.rules.value.ledger (genesis_members g))) ≡ false
+genesis_plain_by First g =
     let book = g.book.value in
     let rules = g.rules.value in
     rw (
       pairs_plain (chaincode_json rules.policies) (chaincode_plain rules.policies) book.chaincodes book.installed.modules,
       items_plain module_json (λ id. refl) book.installed.modules,
-      items_plain (org_json rules.orgs) (λ name. named_plain name (key_of rules.orgs name)) (org_names book.installed.orgs),
+      items_plain (org_json rules.orgs) (λ name. named_plain name (option_and_then point_of (key_of rules.orgs name))) (org_names book.installed.orgs),
       items_plain string (λ s. refl) g.peers.items,
     ) refl
+genesis_plain_by Second g =
+    let book = g.book.value in
+    let rules = g.rules.value in
+    rw (
+      pairs_plain (chaincode_json rules.policies) (chaincode_plain rules.policies) book.chaincodes book.installed.modules,
+      items_plain module_json (λ id. refl) book.installed.modules,
+      items_plain (org_json rules.orgs) (λ name. named_plain name (option_and_then point_of (key_of rules.orgs name))) (org_names book.installed.orgs),
+      items_plain string (λ s. refl) g.peers.items,
+    ) refl
+
+pub genesis_plain : (g : Genesis) → has_float (genesis_json g) ≡ false
+genesis_plain g = genesis_plain_by g.rules.value.edition g
 
 pub placed_write_plain : (id : List ℕ) (block place : ℕ) (key : List ℕ) (value : Option (List ℕ)) →
     has_float (placed_write_json id block place key value) ≡ false

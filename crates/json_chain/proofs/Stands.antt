@@ -146,7 +146,7 @@ module _ (r : Listed) where
 
   pub behind : (chain : Chain) → IsChainOf r chain → membership_behind None chain ≡ usable (get (plain_after chain) membership_key)
   behind chain h =
-      let endorsed = judged_endorsed id_of (λ before. is_endorsed r (state before)) [] chain h.flags in
+      let endorsed = judged_endorsed r.edition id_of (λ before. is_endorsed r (state before)) [] chain h.flags in
       let value = value_after chain membership_key ∙ held_first (last_write (history chain) membership_key) in
       sym (ap usable value ∙ behind_all 1 [] chain h.blocks endorsed None)
 

@@ -1,8 +1,10 @@
 -- What a ledger begins with, as JSON.
-use Rattle.std.specs.Prelude.{ℕ, List, Option, Some, None, codes}
+use Rattle.std.specs.Prelude.{ℕ, List, Option, Some, None, codes, option_and_then}
 use Rattle.wasm_profile.specs.Numbers.{number_of}
-use Rattle.org_keys.specs.declared.organisation.OrgKey.{OrgKey}
-use Rattle.org_keys.specs.declared.organisation.OrgKey.TheVariants as key
+use Rattle.fab_types.specs.Editions.{edition_number}
+use Rattle.fab_types.specs.declared.edition.Edition.{Edition}
+use Rattle.fab_types.specs.declared.edition.Edition.TheVariants.{First, Second}
+use Rattle.org_keys.specs.Keys.{point_of}
 use Rattle.org_keys.specs.declared.organisation.Organisation.{Organisation}
 use Rattle.endorsement_policy.specs.Endorsed.{key_of, listed_policy, org_names}
 use Rattle.endorsement_policy.specs.declared.installed.ModuleId.{ModuleId}
@@ -33,27 +35,36 @@ chaincode_json policies c id =
 abbrev pub chaincodes_json : List ChaincodePolicy → List Chaincode → List ModuleId → List Data
 chaincodes_json policies chaincodes ids = pairs_json (chaincode_json policies) chaincodes ids
 
-abbrev pub named_json : List ℕ → Option OrgKey → Data
+-- a name, or {"name":"B","public":"d75a98.."} where there is a public key
+abbrev pub named_json : List ℕ → Option (List ℕ) → Data
 named_json name None = string name
-named_json name (Some (key.Shared k)) = string name
-named_json name (Some (key.Public k)) = object (member (codes "name") (string name) (member (codes "public") (hex_json k) no_members))
+named_json name (Some k) = object (member (codes "name") (string name) (member (codes "public") (hex_json k) no_members))
 
--- the organisation of this name among these: its name; or, where it has a public key, {"name":"B","public":"d75a98.."}
+-- the organisation of this name among these, with its public key, if it has one, bound or not
 abbrev pub org_json : List Organisation → List ℕ → Data
-org_json orgs name = named_json name (key_of orgs name)
+org_json orgs name = named_json name (option_and_then point_of (key_of orgs name))
 
--- all that is set but the shared keys; the seats and the queue have no part in the chain
-abbrev pub genesis_json : Genesis → Data
-genesis_json g =
+-- what is set under all rules, but for the shared keys; the seats and the queue have no part in the chain
+abbrev pub genesis_members : Genesis → Members
+genesis_members g =
     let book = g.book.value in
     let rules = g.rules.value in
-    object (member (codes "absolute") (number (unsigned g.absolute))
+    member (codes "absolute") (number (unsigned g.absolute))
     (member (codes "chaincodes") (array (items_of (chaincodes_json rules.policies book.chaincodes book.installed.modules)))
     (member (codes "count") (number (unsigned g.count)) (member (codes "ledger") (number (unsigned 1))
     (member (codes "modules") (list_json module_json book.installed.modules)
     (member (codes "orgs") (list_json (org_json rules.orgs) (org_names book.installed.orgs))
     (member (codes "peers") (list_json string g.peers.items) (member (codes "preferred") (number (unsigned g.preferred))
-    (member (codes "reorder") (boolean g.reorder) (member (codes "upgrade") (string (policy_text rules.upgrade)) no_members))))))))))
+    (member (codes "reorder") (boolean g.reorder) (member (codes "upgrade") (string (policy_text rules.upgrade)) no_members)))))))))
+
+-- with the number of the rules and the SHA-256 of the genesis file, unless they are rules 1
+abbrev pub with_rules : Edition → (ledger : List ℕ) → Members → Members
+with_rules First ledger ms = ms
+with_rules Second ledger ms = put (codes "digest") (hex_json ledger) (put (codes "rules") (number (unsigned (edition_number Second))) ms)
+
+-- all that is set but the shared keys
+abbrev pub genesis_json : Genesis → Data
+genesis_json g = object (with_rules g.rules.value.edition g.rules.value.ledger (genesis_members g))
 
 -- ---- the same members as they are put in
 

@@ -1,12 +1,12 @@
 //! What a ledger begins with, as JSON.
 
-ghost use Rattle.std.specs.Prelude.{◌≡◌, ◌≤◌, Some, IfOk, OnOk, length};
+ghost use Rattle.std.specs.Prelude.{◌≡◌, ◌≤◌, Some, IfOk, OnOk, length, option_map};
 ghost use Rattle.serde_json.specs.Data.{array};
 ghost use Rattle.serde_json.specs.View.{items_of, view};
 ghost use Rattle.json_chain.specs.Members.{members_in};
 ghost use Rattle.json_chain.specs.Genesis.{chaincode_json, chaincodes_json, module_json};
 ghost use Rattle.json_chain.specs.Genesis.{named_json, org_json, policy_json, genesis_json};
-ghost use Rattle.json_chain.specs.Genesis.{with_book, with_limits};
+ghost use Rattle.json_chain.specs.Genesis.{with_book, with_limits, with_rules};
 ghost use Rattle.json_chain.specs.Texts.{list_json};
 ghost use Rattle.endorsement_policy.specs.Endorsed.{listed_policy};
 
@@ -15,9 +15,9 @@ use crate::texts::name_of;
 use crate::to_json::ToJson;
 use chaincode_book::Chaincode;
 use endorsement_policy::{ModuleId, Rules};
-use fab_types::{Name, OrgName};
+use fab_types::{Edition, Name, OrgName};
 use ledger_setting::Genesis;
-use org_keys::OrgKey;
+use org_keys::PublicKey;
 use policy_text::policy_text;
 use serde_json::Value;
 use std::alloc::{AllocError, Global};
@@ -29,6 +29,7 @@ pub fn genesis_of(alloc: Global, genesis: &Genesis) -> Result<Value, AllocError>
     let mut object = Object::new(alloc);
     put_limits(&mut object, genesis)?;
     put_book(alloc, &mut object, genesis)?;
+    put_rules(&mut object, &genesis.rules)?;
     Ok(object.into_value())
 }
 
@@ -65,6 +66,21 @@ fn put_book(alloc: Global, object: &mut Object, genesis: &Genesis) -> Result<(),
     )
 }
 
+/// Puts in the number of the rules and the SHA-256 of the genesis file, unless they are rules 1.
+fn put_rules(object: &mut Object, rules: &Rules) -> Result<(), AllocError>
+    ensures { OnOk result (members_in object.new
+        ≡ with_rules rules.now.edition rules.now.ledger (members_in object.old)) }
+{
+    let edition = rules.edition();
+    match edition {
+        Edition::First => Ok(()),
+        Edition::Second => {
+            object.put("rules", Value::from(edition.number()))?;
+            object.put_hex("digest", rules.ledger())
+        }
+    }
+}
+
 /// The organisations of these names.
 fn orgs_of(alloc: Global, rules: &Rules, names: &[OrgName]) -> Result<Value, AllocError>
     ensures { IfOk result (λ v. view v ≡ list_json (org_json rules.now.orgs) names.now) }
@@ -81,18 +97,19 @@ fn org_of(alloc: Global, rules: &Rules, name: &OrgName) -> Result<Value, AllocEr
     ensures { IfOk result (λ v. view v ≡ org_json rules.now.orgs name.now) }
 {
     match rules.organisation(name) {
-        Some(organisation) => keyed(alloc, name, &organisation.key),
+        Some(organisation) => keyed(alloc, name, organisation.key.public()),
         None => name.to_json(alloc),
     }
 }
 
-/// A name, with this key where that is a public one.
-fn keyed(alloc: Global, name: &OrgName, key: &OrgKey) -> Result<Value, AllocError>
-    ensures { IfOk result (λ v. view v ≡ named_json name.now (Some key.now)) }
+/// A name, with this public key, if there is one.
+fn keyed(alloc: Global, name: &OrgName, public: Option<&PublicKey>) -> Result<Value, AllocError>
+    ensures { IfOk result
+        (λ v. view v ≡ named_json name.now (option_map (λ k. k.now) public.entry)) }
 {
-    match key {
-        OrgKey::Shared(_) => name.to_json(alloc),
-        OrgKey::Public(public) => {
+    match public {
+        None => name.to_json(alloc),
+        Some(public) => {
             let mut object = Object::new(alloc);
             object.put_json("name", name)?;
             object.put_hex("public", public.as_bytes())?;

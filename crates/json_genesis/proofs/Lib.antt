@@ -1,5 +1,6 @@
 pub mod Items
 pub mod Refusals
+pub mod Editions
 pub mod NamedKeys
 pub mod Whole
 pub mod OfTexts

@@ -1,11 +1,13 @@
 -- What a genesis file spells can open a system.
-use Rattle.std.proofs.Common.{◌≡◌, ℕ, suc, true, List, [], ◌∷◌, map, length, refl, ap}
+use Rattle.std.proofs.Common.{◌≡◌, ℕ, suc, true, List, [], ◌∷◌, map, length, refl, sym, ap}
 use Rattle.std.specs.List.{list_all}
 use Rattle.serde_json.specs.Data.{Data, Items, no_items, item}
 use Rattle.json_fields.specs.Lists.{AreItems}
 use Rattle.policy_language.specs.GoodSets.{is_among, needs_someone}
 use Rattle.endorsement_policy.specs.declared.rules.ChaincodePolicy.{ChaincodePolicy}
+use Rattle.chaincode_book.specs.Books.{Book}
 use Rattle.chaincode_book.specs.declared.book.Chaincode.{Chaincode}
+use Rattle.sha2.specs.Sha256.{sha256}
 use Rattle.chaincode_book.specs.declared.book.Held.{Held}
 use Rattle.endorsement_policy.specs.Endorsed.{do_need_someone}
 use Rattle.policy_language.specs.Limits.{IsText}
@@ -49,8 +51,8 @@ needed orgs (item d ds) (c ∷ cs) h = rw (policy_needed orgs c.policy.policy h.
 pub all_needed : (orgs : List (List ℕ)) (d : Data) (cs : List Definition) → IsListOf (IsDefinition orgs) 1 16 d cs → do_need_someone (policies_of cs) ≡ true
 all_needed orgs d cs h = needed orgs h.0 cs h.2
 
-opens : (held : List Held) (p : Parts) (g : Genesis) → IsGenesis held p g → CanOpen g
-opens held p g h =
+opens : (ledger : List ℕ) (held : List Held) (p : Parts) (g : Genesis) → IsGenesis ledger held p g → CanOpen g
+opens ledger held p g h =
     let b = h.book in
     let cs = b.0 in
     let names = same_names _ b.2.0 cs b.2.2 in
@@ -61,8 +63,9 @@ opens held p g h =
       known = known_peers _ h.peers.0 g.peers.items h.peers.2;
       chaincodes = rw (b.5, same_count cs) b.2.3;
       policies = rw (b.5, b.6) names;
+      edition = sym (ap (λ (k : Book). k.edition) b.5);
       installed = h.installed;
     }
 
 pub spelled_opens : (text : List ℕ) (held : List Held) (g : Genesis) → SpellsHolding text held g → CanOpen g
-spelled_opens text held g h = opens held h.2.0 g h.2.2
+spelled_opens text held g h = opens (sha256 text) held h.2.0 g h.2.2

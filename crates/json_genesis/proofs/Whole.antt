@@ -1,6 +1,7 @@
 -- The file as a whole: what its parts spell is determined, so a part that is refused leaves no genesis.
 use Rattle.std.proofs.Common.{◌≡◌, ℕ, zero, List, true, false, sym, ap, subst, ◌∙◌}
 use Rattle.policy_language.proofs.Whole.{same}
+use Rattle.fab_types.specs.declared.edition.Edition.{Edition}
 use Rattle.policy_language.specs.GoodSets.{Names}
 use Rattle.policy_language.specs.Limits.{IsText}
 use Rattle.endorsement_policy.specs.declared.installed.ModuleId.{ModuleId}
@@ -20,10 +21,12 @@ use Rattle.json_genesis.specs.declared.definition.Definition.{Definition}
 use Rattle.json_genesis.specs.declared.refusal.GenesisRefusal.{GenesisRefusal}
 use Rattle.json_genesis.specs.Lists.{IsListOf}
 use Rattle.json_genesis.specs.Refused.{NoneIs}
-use Rattle.json_genesis.specs.Spelling.{AreOrganisations, IsBookOf, IsDefinition, IsGenesis, IsHexModule, IsInstalled, IsOrganisation, IsPolicy, IsProfile}
+use Rattle.json_genesis.specs.Spelling.{AreOrganisations, IsBookOf, IsDefinition, IsEdition, IsGenesis, IsHexModule, IsInstalled, IsOrganisation, IsPolicy}
+use Rattle.json_genesis.specs.Spelling.{IsProfile}
 use Rattle.json_genesis.specs.Spelling.{Parts}
 use Rattle.json_genesis.specs.Spelling.{are_different, book_of}
 use Rattle.json_genesis.specs.Spelling.{names_of, policies_of}
+use Rattle.json_genesis.proofs.Editions.{one_edition}
 use Rattle.json_genesis.proofs.Items.{IsListOf-same}
 use Rattle.json_genesis.proofs.NamedKeys.{one_organisation}
 use Rattle.json_genesis.proofs.Refusals.{one_profile, same_ok}
@@ -31,8 +34,9 @@ use Rattle.json_fields.proofs.Rests.{members_in, rest, rest_of_three, first, tex
 
 -- ---- what data spell is one value
 
-pub one_list : (d : Data) (xs ys : List Organisation) → IsListOf IsOrganisation 1 16 d xs → IsListOf IsOrganisation 1 16 d ys → xs ≡ ys
-one_list d xs ys h k = IsListOf-same IsOrganisation one_organisation 1 16 d xs ys h k
+pub one_list : (edition : Edition) (ledger : List ℕ) (d : Data) (xs ys : List Organisation) → IsListOf (IsOrganisation edition ledger) 1 16 d xs →
+    IsListOf (IsOrganisation edition ledger) 1 16 d ys → xs ≡ ys
+one_list edition ledger d xs ys h k = IsListOf-same (IsOrganisation edition ledger) (one_organisation edition ledger) 1 16 d xs ys h k
 
 abbrev whole : Num → ℕ
 whole (unsigned n) = n
@@ -90,53 +94,61 @@ one_definition orgs d x y h k =
     let policy = same orgs k.2 _ _ (subst (λ t. IsText orgs x.policy.policy t) text h.9) k.9 in
     same_definition x y (same_chaincode _ _ name one.0 fuel) one.1 (same_policy _ _ (h.10 ∙ name ∙ sym k.10) policy)
 
-same_book : (orgs : List Organisation) (held : List Held) (d e : Data) (cs cs' : List Definition) (ms ms' : List Held)
+same_book : (edition : Edition) (orgs : List Organisation) (held : List Held) (d e : Data) (cs cs' : List Definition) (ms ms' : List Held)
     → IsListOf (IsDefinition (names_of orgs)) 1 16 d cs → IsListOf (IsDefinition (names_of orgs)) 1 16 d cs' → IsListOf IsInstalled 0 16 e ms
     → IsListOf IsInstalled 0 16 e ms'
-    → book_of orgs held cs ms ≡ book_of orgs held cs' ms'
-same_book orgs held d e cs cs' ms ms' c c' m m' =
-    ap (λ x. book_of orgs held x ms) (IsListOf-same (IsDefinition (names_of orgs)) (one_definition (names_of orgs)) 1 16 d cs cs' c c') ∙
-    ap (λ x. book_of orgs held cs' x) (IsListOf-same IsInstalled one_installed 0 16 e ms ms' m m')
+    → book_of edition orgs held cs ms ≡ book_of edition orgs held cs' ms'
+same_book edition orgs held d e cs cs' ms ms' c c' m m' =
+    ap (λ x. book_of edition orgs held x ms) (IsListOf-same (IsDefinition (names_of orgs)) (one_definition (names_of orgs)) 1 16 d cs cs' c c') ∙
+    ap (λ x. book_of edition orgs held cs' x) (IsListOf-same IsInstalled one_installed 0 16 e ms ms' m m')
 
-pub one_book : (orgs : List Organisation) (held : List Held) (d e : Data) (a b : Book) (ps qs : List ChaincodePolicy) → IsBookOf orgs held d e a ps
-    → IsBookOf orgs held d e b qs
-    → (a ≡ b) × (ps ≡ qs)
-one_book orgs held d e a b ps qs h k = (
-  h.5 ∙ same_book orgs held d e _ _ _ _ h.2 k.2 h.3 k.3 ∙ sym k.5,
+pub one_book : (edition : Edition) (orgs : List Organisation) (held : List Held) (d e : Data) (a b : Book) (ps qs : List ChaincodePolicy)
+    → IsBookOf edition orgs held d e a ps → IsBookOf edition orgs held d e b qs → (a ≡ b) × (ps ≡ qs)
+one_book edition orgs held d e a b ps qs h k = (
+  h.5 ∙ same_book edition orgs held d e _ _ _ _ h.2 k.2 h.3 k.3 ∙ sym k.5,
   h.6 ∙ ap policies_of (IsListOf-same (IsDefinition (names_of orgs)) (one_definition (names_of orgs)) 1 16 d _ _ h.2 k.2) ∙ sym k.6,
 )
 
 -- ---- a part that is refused
 
 -- chaincodes and modules that make no book
-pub NoneIs-book : (orgs : List Organisation) (held : List Held) (d e : Data) (cs : List Definition) (ms : List Held)
+pub NoneIs-book : (edition : Edition) (orgs : List Organisation) (held : List Held) (d e : Data) (cs : List Definition) (ms : List Held)
     → IsListOf (IsDefinition (names_of orgs)) 1 16 d cs
-    → IsListOf IsInstalled 0 16 e ms → ¬ IsBook (book_of orgs held cs ms)
-    → (b : Book × List ChaincodePolicy) → ¬ IsBookOf orgs held d e b.0 b.1
-NoneIs-book orgs held d e cs ms c m not b spelled =
-    not (subst IsBook (spelled.5 ∙ same_book orgs held d e _ cs _ ms spelled.2 c spelled.3 m) spelled.4)
+    → IsListOf IsInstalled 0 16 e ms → ¬ IsBook (book_of edition orgs held cs ms)
+    → (b : Book × List ChaincodePolicy) → ¬ IsBookOf edition orgs held d e b.0 b.1
+NoneIs-book edition orgs held d e cs ms c m not b spelled =
+    not (subst IsBook (spelled.5 ∙ same_book edition orgs held d e _ cs _ ms spelled.2 c spelled.3 m) spelled.4)
 
 -- two organisations of one name, or of one public key
-pub NoneIs-different : (of : List Organisation → List (List ℕ)) (d : Data) (os : List Organisation) → IsListOf IsOrganisation 1 16 d os
-    → are_different (of os) ≡ false → (xs : List Organisation) → IsListOf IsOrganisation 1 16 d xs → ¬ (are_different (of xs) ≡ true)
-NoneIs-different of d os h not xs listed spelled =
-    let same = one_list d xs os listed h in
+pub NoneIs-different : (of : List Organisation → List (List ℕ)) (edition : Edition) (ledger : List ℕ) (d : Data) (os : List Organisation)
+    → IsListOf (IsOrganisation edition ledger) 1 16 d os → are_different (of os) ≡ false → (xs : List Organisation)
+    → IsListOf (IsOrganisation edition ledger) 1 16 d xs → ¬ (are_different (of xs) ≡ true)
+NoneIs-different of edition ledger d os h not xs listed spelled =
+    let same = one_list edition ledger d xs os listed h in
     let other : are_different (of os) ≡ true = subst (λ ys. are_different (of ys) ≡ true) same spelled in
     cc
 
+-- the organisations of a genesis, by the edition that its fields name
+pub organisations_by : (ledger : List ℕ) (held : List Held) (p : Parts) (edition : Edition) (g : Genesis) → IsEdition p.rules edition →
+    IsGenesis ledger held p g → AreOrganisations edition ledger p.orgs g.rules.value.orgs
+organisations_by ledger held p edition g named spelled =
+    subst (λ e. AreOrganisations e ledger p.orgs g.rules.value.orgs) (one_edition p.rules _ _ spelled.edition named) spelled.organisations
+
 -- a part that rests on the organisations
-pub NoneIs-of : {A : Type 0} (Is : List Organisation → A → Type 0) (part : Genesis → A) (held : List Held) (p : Parts) (os : List Organisation)
-    (r : GenesisRefusal) → ((g : Genesis) → IsGenesis held p g → Is g.rules.value.orgs (part g)) → AreOrganisations p.orgs os → NoneIs (Is os) r
-    → NoneIs (IsGenesis held p) r
-NoneIs-of Is part held p os r has h none = (
+pub NoneIs-of : {A : Type 0} (Is : List Organisation → A → Type 0) (part : Genesis → A) (ledger : List ℕ) (held : List Held) (p : Parts)
+    (edition : Edition) (os : List Organisation) (r : GenesisRefusal) → ((g : Genesis) → IsGenesis ledger held p g → Is g.rules.value.orgs (part g))
+    → IsEdition p.rules edition → AreOrganisations edition ledger p.orgs os → NoneIs (Is os) r → NoneIs (IsGenesis ledger held p) r
+NoneIs-of Is part ledger held p edition os r has named h none = (
   none.0,
   λ real g spelled.
-      none.1 real (part g) (subst (λ xs. Is xs (part g)) (sym (one_list p.orgs os _ h.0 spelled.organisations.0)) (has g spelled)),
+      let listed = organisations_by ledger held p edition g named spelled in
+      none.1 real (part g) (subst (λ xs. Is xs (part g)) (sym (one_list edition ledger p.orgs os _ h.0 listed.0)) (has g spelled)),
 )
 
 -- a part that rests on the names of the organisations
-pub NoneIs-part : {A : Type 0} (Is : Names → A → Type 0) (part : Genesis → A) (held : List Held) (p : Parts) (os : List Organisation) (orgs : Names) (r : GenesisRefusal)
-    → ((g : Genesis) → IsGenesis held p g → Is (names_of g.rules.value.orgs) (part g)) → AreOrganisations p.orgs os → orgs ≡ names_of os
-    → NoneIs (Is orgs) r → NoneIs (IsGenesis held p) r
-NoneIs-part Is part held p os orgs r has h is none =
-    NoneIs-of (λ xs. Is (names_of xs)) part held p os r has h (subst (λ ns. NoneIs (Is ns) r) is none)
+pub NoneIs-part : {A : Type 0} (Is : Names → A → Type 0) (part : Genesis → A) (ledger : List ℕ) (held : List Held) (p : Parts) (edition : Edition)
+    (os : List Organisation) (orgs : Names) (r : GenesisRefusal) → ((g : Genesis) → IsGenesis ledger held p g → Is (names_of g.rules.value.orgs) (part g))
+    → IsEdition p.rules edition → AreOrganisations edition ledger p.orgs os → orgs ≡ names_of os → NoneIs (Is orgs) r
+    → NoneIs (IsGenesis ledger held p) r
+NoneIs-part Is part ledger held p edition os orgs r has named h is none =
+    NoneIs-of (λ xs. Is (names_of xs)) part ledger held p edition os r has named h (subst (λ ns. NoneIs (Is ns) r) is none)

@@ -2,6 +2,7 @@
 use Rattle.std.specs.Prelude.{◌≡◌, ℕ, List, [], Some, None}
 use Rattle.serde_json.specs.Data.{Data}
 use Rattle.serde_json.specs.Read.{read}
+use Rattle.sha2.specs.Sha256.{sha256}
 use Rattle.chaincode_book.specs.declared.book.Held.{Held}
 use Rattle.json_genesis.specs.declared.refusal.GenesisRefusal.{GenesisRefusal}
 use Rattle.json_genesis.specs.declared.refusal.GenesisRefusal.TheVariants.{Memory, Json, Field, Range, Module, Policy, Names}
@@ -23,7 +24,7 @@ SpellsNone Is text Names = IsOther Is text
 
 -- the text spells no genesis, whose book has these modules at hand
 abbrev pub NoGenesisHolding : List ℕ → List Held → GenesisRefusal → Type 0
-NoGenesisHolding text held r = SpellsNone (IsGenesisOf held) text r
+NoGenesisHolding text held r = SpellsNone (IsGenesisOf (sha256 text) held) text r
 
 abbrev pub NoGenesis : List ℕ → GenesisRefusal → Type 0
 NoGenesis text r = NoGenesisHolding text [] r

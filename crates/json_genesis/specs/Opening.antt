@@ -9,7 +9,7 @@ use Rattle.json_genesis.specs.Lists.{IsWithin}
 use Rattle.json_genesis.specs.Spelling.{are_different, names_of, public_keys_of}
 
 -- No two organisations have one name or one public key, each peer's organisation is known, the rules have a policy for each chaincode of the
--- book, in its order, and both say the same of what is installed. That the numbers are within the ledger's limits is said by the type
+-- book, in its order, and both are of one edition, and say the same of what is installed. That the numbers are within the ledger's limits is said by the type
 pub record CanOpen (g : Genesis) : Type 0 where
   pub organisations : IsWithin 1 16 (length g.rules.value.orgs)
   pub different : are_different (names_of g.rules.value.orgs) ≡ true
@@ -17,6 +17,7 @@ pub record CanOpen (g : Genesis) : Type 0 where
   pub known : list_all (is_among (names_of g.rules.value.orgs)) g.peers.items ≡ true
   pub chaincodes : IsWithin 1 16 (length g.book.value.chaincodes)
   pub policies : map (λ (p : ChaincodePolicy). p.chaincode) g.rules.value.policies ≡ map (λ (c : Chaincode). c.name) g.book.value.chaincodes
+  pub edition : g.rules.value.edition ≡ g.book.value.edition
   pub installed : g.rules.value.installed ≡ g.book.value.installed
 
 -- Both hold the same. Where their parts lie in memory is not compared

@@ -13,17 +13,18 @@ use crate::modules::{ModuleReader, modules_apart};
 use crate::refusal::GenesisRefusal;
 use chaincode_book::{Book, Held};
 use endorsement_policy::{ChaincodePolicy, Installed};
-use fab_types::OrgName;
 use fab_types::limits::{MOST_CHAINCODES, MOST_MODULES};
+use fab_types::{Edition, OrgName};
 use org_keys::Organisation;
 use serde_json::Value;
 use std::alloc::Global;
 
-/// The book of the chaincodes and modules that are listed, where the ledger has these
-/// organisations, of these names, and those modules are at hand that are held; and the policies of
-/// its chaincodes.
+/// The book by an edition of the rules of the chaincodes and modules that are listed, where the
+/// ledger has these organisations, of these names, and those modules are at hand that are held; and
+/// the policies of its chaincodes.
 pub(crate) fn book(
     alloc: Global,
+    edition: Edition,
     chaincodes: &Value,
     modules: &Value,
     organisations: Vec<Organisation>,
@@ -32,11 +33,11 @@ pub(crate) fn book(
 ) -> Result<(Book, Vec<ChaincodePolicy>), GenesisRefusal>
     requires { orgs.now ≡ names_of organisations.items }
     ensures ok { IfOk result
-        (λ b. IsBookOf organisations.items held.items (view chaincodes.now) (view modules.now) b.0
-        b.1.items) }
+        (λ b. IsBookOf edition organisations.items held.items (view chaincodes.now)
+        (view modules.now) b.0 b.1.items) }
     ensures refused { IfErr result
         (λ r. NoneIs
-        (λ (b : Book × List ChaincodePolicy). IsBookOf organisations.items held.items
+        (λ (b : Book × List ChaincodePolicy). IsBookOf edition organisations.items held.items
         (view chaincodes.now) (view modules.now) b.0 b.1) r) }
 {
     let reader = DefinitionReader { orgs };
@@ -49,7 +50,7 @@ pub(crate) fn book(
     } = parted(alloc, definitions)?;
     let (modules, ids) = modules_apart(alloc, more, ids)?;
     let installed = Installed::new(alloc, ids, organisations)?;
-    match Book::new(chaincodes, modules, installed, held) {
+    match Book::new(edition, chaincodes, modules, installed, held) {
         Some(book) => Ok((book, policies)),
         None => Err(GenesisRefusal::Names),
     }

@@ -1,10 +1,10 @@
 //! The fields of the objects in the file.
 
-ghost use Rattle.std.specs.Prelude.{◌≡◌, ◌≢◌, ℕ, List, MatchOption};
+ghost use Rattle.std.specs.Prelude.{◌≡◌, ◌≢◌, ℕ, List, Option, MatchOption, codes, option_map};
 ghost use Rattle.serde_json.specs.Data.{Data, Members, member};
 ghost use Rattle.serde_json.specs.View.{view, members_view};
 ghost use Rattle.json_genesis.specs.Spelling.{Parts, chaincode_object, module_object, object_of};
-ghost use Rattle.json_genesis.specs.Spelling.{shared_object};
+ghost use Rattle.json_genesis.specs.Spelling.{shared_object, with_rules};
 ghost use Rattle.json_genesis.specs.Fields.{parts_of};
 
 use json_fields::{Fields, fields, is_end, take, take_text};
@@ -22,11 +22,13 @@ pub(crate) struct GenesisFields<'a> {
     pub preferred: &'a Value,
     pub queue: &'a Value,
     pub reorder: &'a Value,
+    pub rules: Option<&'a Value>,
     pub seats: &'a Value,
     pub upgrade: &'a Value,
 }
 
-/// The fields of the file. None where one is missing or left over.
+/// The fields of the file, of which `rules` alone may be left out. None where another is missing,
+/// or one is left over.
 pub(crate) fn genesis_fields(value: &Value) -> Option<GenesisFields<'_>>
     ensures { MatchOption result ((p : Parts) → view value.now ≢ object_of p)
         (λ f. view value.now ≡ object_of (parts_of f)) }
@@ -35,7 +37,7 @@ pub(crate) fn genesis_fields(value: &Value) -> Option<GenesisFields<'_>>
     let (absolute, chaincodes, count) = take_three(&mut left, "absolute", "chaincodes", "count")?;
     let (modules, orgs, peers) = take_three(&mut left, "modules", "orgs", "peers")?;
     let (preferred, queue, reorder) = take_three(&mut left, "preferred", "queue", "reorder")?;
-    let seats = take(&mut left, "seats")?;
+    let (rules, seats) = take_rules_and_seats(&mut left)?;
     let upgrade = take(&mut left, "upgrade")?;
     if !is_end(&mut left) {
         return None;
@@ -50,6 +52,7 @@ pub(crate) fn genesis_fields(value: &Value) -> Option<GenesisFields<'_>>
         preferred,
         queue,
         reorder,
+        rules,
         seats,
         upgrade,
     })
@@ -75,6 +78,26 @@ fn take_three<'a>(
     let b = take(left, second)?;
     let c = take(left, third)?;
     Some((a, b, c))
+}
+
+/// Takes the field `seats`, and before it `rules` where it is the first that is left.
+fn take_rules_and_seats<'a>(left: &mut Fields<'a>) -> Option<(Option<&'a Value>, &'a Value)>
+    ensures { MatchOption result
+        ((rules : Option Data) (seats : Data) (rest : Members) →
+        members_view left.old ≢ with_rules rules (member (codes "seats") seats rest))
+        (λ t. members_view left.old
+        ≡ with_rules (option_map (λ d. view d.now) t.0)
+        (member (codes "seats") (view t.1.now) (members_view left.new))) }
+{
+    let (name, value) = left.next()?;
+    match name.as_str() {
+        "rules" => {
+            let seats = take(left, "seats")?;
+            Some((Some(value), seats))
+        }
+        "seats" => Some((None, value)),
+        _ => None,
+    }
 }
 
 /// What the fields of an organisation with a shared key hold: the key in hex, and the name.

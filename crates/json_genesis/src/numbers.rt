@@ -1,13 +1,14 @@
 //! Numbers, profiles, truth values and hex.
 
-ghost use Rattle.std.specs.Prelude.{◌≡◌, IfOk, IfErr};
+ghost use Rattle.std.specs.Prelude.{◌≡◌, IfOk, IfErr, option_map};
 ghost use Rattle.serde_json.specs.Data.{boolean};
 ghost use Rattle.serde_json.specs.View.{view};
 ghost use Rattle.json_genesis.specs.Lists.{IsNumber};
 ghost use Rattle.json_genesis.specs.Refused.{NoneIs};
-ghost use Rattle.json_genesis.specs.Spelling.{IsHex, IsProfile};
+ghost use Rattle.json_genesis.specs.Spelling.{IsEdition, IsHex, IsProfile};
 
 use crate::refusal::GenesisRefusal;
+use fab_types::Edition;
 use hex::FromHexError;
 use serde_json::Value;
 use std::alloc::Global;
@@ -48,6 +49,20 @@ pub(crate) fn profile(value: &Value) -> Result<Profile, GenesisRefusal>
 {
     let number = within(value, 1, 2)?;
     Profile::of_number(number as u8).ok_or(GenesisRefusal::Range)
+}
+
+/// The edition of the rules that a field names, whose number is read as `within` reads it. The
+/// first edition where the field is left out.
+pub(crate) fn edition(value: Option<&Value>) -> Result<Edition, GenesisRefusal>
+    ensures ok { IfOk result (λ e. IsEdition (option_map (λ d. view d.now) value.entry) e) }
+    ensures refused { IfErr result
+        (λ r. NoneIs (IsEdition (option_map (λ d. view d.now) value.entry)) r) }
+{
+    let Some(value) = value else {
+        return Ok(Edition::First);
+    };
+    let known = within(value, 1, 2)?;
+    Edition::from_number(known as u32).ok_or(GenesisRefusal::Range)
 }
 
 /// The truth value that a field holds.

@@ -14,19 +14,20 @@ use crate::book::book;
 use crate::chaincodes::upgrade_policy;
 use crate::fields::{GenesisFields, genesis_fields};
 use crate::lists::read_list;
-use crate::numbers::{size_within, truth};
+use crate::numbers::{edition, size_within, truth};
 use crate::organisations::organisations;
 use crate::peers::PeerReader;
 use crate::refusal::GenesisRefusal;
 use chaincode_book::Held;
 use endorsement_policy::Rules;
-use fab_types::OrgName;
 use fab_types::limits::{MOST_DATA_BYTES, MOST_PEERS, MOST_QUEUED, MOST_SEATS, MOST_TRANSACTIONS};
+use fab_types::{Edition, OrgName};
 use ledger_setting::Genesis;
 use org_keys::{Organisation, Signers};
 use policy_language::Policy;
 use serde_json::Value;
 use serde_json::error::Category;
+use sha2::{Digest, Sha256};
 use std::alloc::Global;
 use std::sync::Arc;
 
@@ -57,20 +58,27 @@ pub fn read_genesis_holding(
     ensures opening { IfOk result (λ g. CanOpen g) }
     ensures refused { IfErr result (λ r. NoGenesisHolding text.now held.items r) }
 {
+    let ledger = Sha256::digest(text.as_bytes());
     match Value::from_str(alloc, text) {
-        Ok(value) => genesis_of(alloc, &value, held),
+        Ok(value) => genesis_of(alloc, &ledger, &value, held),
         Err(error) if error.classify() == Category::Memory => Err(GenesisRefusal::Memory),
         Err(_) => Err(GenesisRefusal::Json),
     }
 }
 
-/// The genesis that the data of a file spells, with these modules at hand.
-fn genesis_of(alloc: Global, value: &Value, held: Vec<Held>) -> Result<Genesis, GenesisRefusal>
-    ensures ok { IfOk result (λ g. IsGenesisOf held.items (view value.now) g) }
-    ensures refused { IfErr result (λ r. NoneIs (IsGenesisOf held.items (view value.now)) r) }
+/// The genesis that the data of a file with this SHA-256 spell, with these modules at hand.
+fn genesis_of(
+    alloc: Global,
+    ledger: &[u8; 32],
+    value: &Value,
+    held: Vec<Held>,
+) -> Result<Genesis, GenesisRefusal>
+    ensures ok { IfOk result (λ g. IsGenesisOf ledger.now held.items (view value.now) g) }
+    ensures refused { IfErr result
+        (λ r. NoneIs (IsGenesisOf ledger.now held.items (view value.now)) r) }
 {
     match genesis_fields(value) {
-        Some(fields) => genesis_from(alloc, &fields, held),
+        Some(fields) => genesis_from(alloc, ledger, &fields, held),
         None => Err(GenesisRefusal::Field),
     }
 }
@@ -78,14 +86,16 @@ fn genesis_of(alloc: Global, value: &Value, held: Vec<Held>) -> Result<Genesis, 
 /// The genesis that the fields spell, with these modules at hand.
 fn genesis_from(
     alloc: Global,
+    ledger: &[u8; 32],
     fields: &GenesisFields<'_>,
     held: Vec<Held>,
 ) -> Result<Genesis, GenesisRefusal>
-    ensures ok { IfOk result (λ g. IsGenesis held.items (parts_of fields.now) g) }
-    ensures refused { IfErr result (λ r. NoneIs (IsGenesis held.items (parts_of fields.now)) r) }
+    ensures ok { IfOk result (λ g. IsGenesis ledger.now held.items (parts_of fields.now) g) }
+    ensures refused { IfErr result
+        (λ r. NoneIs (IsGenesis ledger.now held.items (parts_of fields.now)) r) }
 {
-    match setting_of(alloc, fields) {
-        Ok(setting) => genesis_with(alloc, fields, setting, held),
+    match setting_of(alloc, ledger, fields) {
+        Ok(setting) => genesis_with(alloc, ledger, fields, setting, held),
         Err(refusal) => Err(refusal),
     }
 }
@@ -99,6 +109,7 @@ struct Setting {
     preferred: usize,
     absolute: usize,
     reorder: bool,
+    edition: Edition,
     organisations: Vec<Organisation>,
     /// The names of the organisations.
     orgs: Vec<OrgName>,
@@ -107,10 +118,14 @@ struct Setting {
 }
 
 /// What the fields spell but for the book, whatever modules are at hand.
-fn setting_of(alloc: Global, fields: &GenesisFields<'_>) -> Result<Setting, GenesisRefusal>
-    ensures ok { IfOk result (λ s. IsSetting (parts_of fields.now) s) }
+fn setting_of(
+    alloc: Global,
+    ledger: &[u8; 32],
+    fields: &GenesisFields<'_>,
+) -> Result<Setting, GenesisRefusal>
+    ensures ok { IfOk result (λ s. IsSetting ledger.now (parts_of fields.now) s) }
     ensures refused { IfErr result
-        (λ r. (held : List Held) → NoneIs (IsGenesis held (parts_of fields.now)) r) }
+        (λ r. (held : List Held) → NoneIs (IsGenesis ledger.now held (parts_of fields.now)) r) }
 {
     let seats = size_within(fields.seats, 1, MOST_SEATS)?;
     let queue = size_within(fields.queue, 1, MOST_QUEUED)?;
@@ -118,7 +133,8 @@ fn setting_of(alloc: Global, fields: &GenesisFields<'_>) -> Result<Setting, Gene
     let preferred = size_within(fields.preferred, 1, MOST_DATA_BYTES)?;
     let absolute = size_within(fields.absolute, 1, MOST_DATA_BYTES)?;
     let reorder = truth(fields.reorder)?;
-    let (organisations, orgs) = organisations(alloc, fields.orgs)?;
+    let edition = edition(fields.rules)?;
+    let (organisations, orgs) = organisations(alloc, edition, ledger, fields.orgs)?;
     let reader = PeerReader { orgs: &orgs };
     let peers = read_list(alloc, &reader, fields.peers, 1, MOST_PEERS)?;
     let upgrade = upgrade_policy(alloc, fields.upgrade, &orgs)?;
@@ -129,6 +145,7 @@ fn setting_of(alloc: Global, fields: &GenesisFields<'_>) -> Result<Setting, Gene
         preferred,
         absolute,
         reorder,
+        edition,
         organisations,
         orgs,
         peers,
@@ -139,13 +156,15 @@ fn setting_of(alloc: Global, fields: &GenesisFields<'_>) -> Result<Setting, Gene
 /// The genesis of what the fields spell, with the book that they spell and these modules at hand.
 fn genesis_with(
     alloc: Global,
+    ledger: &[u8; 32],
     fields: &GenesisFields<'_>,
     setting: Setting,
     held: Vec<Held>,
 ) -> Result<Genesis, GenesisRefusal>
-    requires spelled { IsSetting (parts_of fields.now) setting }
-    ensures ok { IfOk result (λ g. IsGenesis held.items (parts_of fields.now) g) }
-    ensures refused { IfErr result (λ r. NoneIs (IsGenesis held.items (parts_of fields.now)) r) }
+    requires spelled { IsSetting ledger.now (parts_of fields.now) setting }
+    ensures ok { IfOk result (λ g. IsGenesis ledger.now held.items (parts_of fields.now) g) }
+    ensures refused { IfErr result
+        (λ r. NoneIs (IsGenesis ledger.now held.items (parts_of fields.now)) r) }
 {
     let Setting {
         seats,
@@ -154,6 +173,7 @@ fn genesis_with(
         preferred,
         absolute,
         reorder,
+        edition,
         organisations,
         orgs,
         peers,
@@ -161,6 +181,7 @@ fn genesis_with(
     } = setting;
     let (book, policies) = book(
         alloc,
+        edition,
         fields.chaincodes,
         fields.modules,
         organisations,
@@ -168,7 +189,7 @@ fn genesis_with(
         held,
     )?;
     let installed = book.installed().clone()?;
-    let Some(rules) = Rules::new(policies, upgrade, installed) else {
+    let Some(rules) = Rules::new(*ledger, edition, policies, upgrade, installed) else {
         return Err(GenesisRefusal::Policy);
     };
     Ok(Genesis {

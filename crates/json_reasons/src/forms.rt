@@ -11,6 +11,9 @@ pub(crate) struct Form<K: 'static> {
     pub fields: &'static [(&'static str, K)],
 }
 
+/// A field of the whole, by its name.
+pub(crate) type Field = (&'static str, Content);
+
 /// What a field of the whole holds.
 pub(crate) enum Content {
     /// One value.

@@ -1,11 +1,8 @@
 //! What a line of an events file, a proposal and a question may have.
 
 use crate::complaint::Letters;
-use crate::forms::{Content, Form, Items, List};
+use crate::forms::{Content, Field, Form, Items, List};
 use crate::rule::Rule;
-
-/// A field of a line, with what it holds.
-type Field = (&'static str, Content);
 
 /// The words by which lines ask.
 pub(crate) struct Words {
@@ -216,7 +213,7 @@ const ASK_KEY: &[Form<Content>] = &[Form {
 const PART_OF_HISTORY: &[Field] = &[
     ASK,
     KEY,
-    ("from", Content::One(Rule::Number(1, 65_535))),
+    ("from", Content::One(Rule::Number(1, 4_000_000_000))),
     ("blocks", Content::One(Rule::Number(1, 1_000))),
 ];
 
@@ -238,7 +235,7 @@ const ASK_HISTORY: &[Form<Content>] = &[
 
 const ASK_BLOCK: &[Form<Content>] = &[Form {
     by: None,
-    fields: &[ASK, ("number", Content::One(Rule::Number(1, 65_535)))],
+    fields: &[ASK, ("number", Content::One(Rule::Number(1, 4_000_000_000)))],
 }];
 
 const ASK_RANGE: &[Form<Content>] = &[Form {

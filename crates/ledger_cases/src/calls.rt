@@ -3,9 +3,9 @@
 use crate::bytes::{bytes_of, split_word};
 use crate::fault::CaseFault;
 use crate::texts::{separate, write_hex, write_ranges, write_reads, write_result, write_writes};
-use crate::transactions::write_item;
-use fab_types::Value;
-use host_api::{Parts, PlainMap, Recorder};
+use crate::transactions::{chaincode_name, write_item};
+use fab_types::{Edition, Namespace, Value};
+use host_api::{Given, Parts, PlainMap, Recorder};
 use interp::{Host, HostAnswer};
 use std::alloc::{AllocError, Global};
 use std::fmt::Write;
@@ -22,13 +22,14 @@ struct Case<'a> {
     calls: &'a str,
 }
 
-/// What the host answers to calls, and what it recorded.
-pub fn call_host(alloc: Global, text: &str) -> Result<String, CaseFault> {
+/// What the host answers to calls of `kv` under an edition of the rules, and what it recorded.
+pub fn call_host(alloc: Global, edition: Edition, text: &str) -> Result<String, CaseFault> {
     let case = case_of(text).ok_or(CaseFault::BadLine)?;
     let argument = Value::new(bytes_of(alloc, case.argument)?).ok_or(CaseFault::BadLine)?;
+    let given = Given::new(&argument, Namespace::of(edition, &chaincode_name()?));
     let memory = bytes_of(alloc, case.memory)?;
     let mut state = PlainMap::empty(alloc);
-    record_calls(alloc, &mut state, &argument, &memory, case)
+    record_calls(alloc, &mut state, given, &memory, case)
 }
 
 fn case_of(text: &str) -> Option<Case<'_>> {
@@ -55,14 +56,14 @@ fn write_each(alloc: Global, state: &mut PlainMap, writes: &str) -> Result<(), C
 fn record_calls(
     alloc: Global,
     state: &mut PlainMap,
-    argument: &Value,
+    given: Given<'_>,
     memory: &[u8],
     case: Case<'_>,
 ) -> Result<String, CaseFault> {
     write_each(alloc, state, case.state)?;
     let mut changed = Memory::new(alloc, memory.len())?;
     changed.write(0, memory);
-    let mut host = Recorder::new(alloc, state, argument);
+    let mut host = Recorder::new(alloc, state, given);
     let answers = answers(alloc, &mut host, &mut changed, memory, case.calls);
     with_parts(answers, &host.into_parts())
 }

@@ -14,6 +14,8 @@ use crate::operators::apply_operator;
 use crate::policies::{show_endorsed, show_policy, show_satisfied};
 use crate::runs::Question;
 use crate::simulations::simulate_calls;
+use crate::tags::show_bound;
+use fab_types::Edition;
 use std::alloc::Global;
 use wasm_profile::Profile;
 use world_state::Snapshot;
@@ -29,24 +31,55 @@ pub fn without_note(line: &str) -> &str {
 /// What a case gives.
 pub fn answer_case(alloc: Global, line: &str) -> Result<String, CaseFault> {
     let (verb, rest) = split_word(line);
-    answer_on_state(alloc, &mut Snapshot::empty(alloc), verb, rest)
+    match verb {
+        "under" => answer_under(alloc, rest),
+        _ => answer_ruled(alloc, Edition::First, verb, rest),
+    }
+}
+
+/// What a case gives behind the number of an edition of the rules.
+fn answer_under(alloc: Global, text: &str) -> Result<String, CaseFault> {
+    let (number, case) = split_word(text);
+    let edition = match number {
+        "1" => Edition::First,
+        "2" => Edition::Second,
+        _ => return Err(CaseFault::BadLine),
+    };
+    let (verb, rest) = split_word(case);
+    answer_ruled(alloc, edition, verb, rest)
+}
+
+/// What a case gives under an edition of the rules.
+fn answer_ruled(
+    alloc: Global,
+    edition: Edition,
+    verb: &str,
+    rest: &str,
+) -> Result<String, CaseFault> {
+    match verb {
+        "call" => call_host(alloc, edition, rest),
+        _ => answer_on_state(alloc, edition, &mut Snapshot::empty(alloc), verb, rest),
+    }
 }
 
 /// What a case gives, by its verb, of which some begin with this state without keys.
 fn answer_on_state(
     alloc: Global,
+    edition: Edition,
     snapshot: &mut Snapshot,
     verb: &str,
     rest: &str,
 ) -> Result<String, CaseFault> {
     match verb {
-        "endorsed" => show_endorsed(alloc, snapshot, rest),
-        "flags" => judge_chain(alloc, snapshot, rest),
-        "state" => show_state(alloc, snapshot, rest),
-        "get" => show_key(alloc, snapshot, rest),
-        "range" => show_range(alloc, snapshot, rest),
-        "simulate" => simulate_calls(alloc, snapshot, rest, Profile::Core1),
-        "simulate2" => simulate_calls(alloc, snapshot, rest, Profile::SignExtension),
+        "endorsed" => show_endorsed(alloc, edition, snapshot, rest),
+        "flags" => judge_chain(alloc, edition, snapshot, rest),
+        "state" => show_state(alloc, edition, snapshot, rest),
+        "get" => show_key(alloc, edition, snapshot, rest),
+        "range" => show_range(alloc, edition, snapshot, rest),
+        "simulate" => simulate_calls(alloc, edition, snapshot, rest, Profile::Core1),
+        "simulate2" => {
+            simulate_calls(alloc, edition, snapshot, rest, Profile::SignExtension)
+        }
         _ => answer_text(alloc, verb, rest),
     }
 }
@@ -59,7 +92,6 @@ fn answer_text(alloc: Global, verb: &str, rest: &str) -> Result<String, CaseFaul
         "event" => Ok(event_line(alloc, rest)?),
         "genesis" => Ok(genesis_file(alloc, rest)?),
         "modules" => Ok(modules_file(alloc, rest)?),
-        "call" => call_host(alloc, rest),
         "by" => answer_by(alloc, rest),
         _ => answer_bytes(alloc, verb, rest),
     }
@@ -76,6 +108,7 @@ fn answer_bytes(alloc: Global, verb: &str, pieces: &str) -> Result<String, CaseF
         "tx_id" => show_id(alloc, pieces),
         "hashes" => show_hashes(alloc, pieces),
         "tag" => show_tag(alloc, pieces),
+        "bound" => show_bound(alloc, pieces),
         _ => answer_module(alloc, Profile::Core1, verb, pieces),
     }
 }

@@ -7,7 +7,9 @@ use crate::bytes::split_word;
 use crate::fault::CaseFault;
 use crate::texts::{separate, write_pair, write_version};
 use crate::transactions::{Asked, asked_range, is_endorsed, key_of, payload_of, unendorsed};
-use fab_types::{Block, BlockData, BlockNumber, Envelope, Flag, Header, Key, Value, Version};
+use fab_types::{
+    Block, BlockData, BlockNumber, Edition, Envelope, Flag, Header, Key, Value, Version,
+};
 use mvcc_validate::flag_block;
 use std::alloc::{AllocError, Global};
 use std::fmt::Write;
@@ -16,18 +18,24 @@ use world_state::{Judged, Snapshot};
 /// Each key of the state after a chain, with its value and version.
 pub fn show_state(
     alloc: Global,
+    edition: Edition,
     snapshot: &mut Snapshot,
     chain: &str,
 ) -> Result<String, CaseFault> {
-    judge_chain(alloc, snapshot, chain)?;
+    judge_chain(alloc, edition, snapshot, chain)?;
     let entries = snapshot.entries(alloc)?;
     Ok(entries_text(alloc, &entries)?)
 }
 
 /// What the state after a chain has at the key that the first word is.
-pub fn show_key(alloc: Global, snapshot: &mut Snapshot, text: &str) -> Result<String, CaseFault> {
+pub fn show_key(
+    alloc: Global,
+    edition: Edition,
+    snapshot: &mut Snapshot,
+    text: &str,
+) -> Result<String, CaseFault> {
     let (key, chain) = split_word(text);
-    judge_chain(alloc, snapshot, chain)?;
+    judge_chain(alloc, edition, snapshot, chain)?;
     let key = key_of(alloc, key)?;
     let mut answer = String::new(alloc);
     match snapshot.get(&key) {
@@ -38,9 +46,14 @@ pub fn show_key(alloc: Global, snapshot: &mut Snapshot, text: &str) -> Result<St
 }
 
 /// The first entries of the range that the first word is, in the state after a chain.
-pub fn show_range(alloc: Global, snapshot: &mut Snapshot, text: &str) -> Result<String, CaseFault> {
+pub fn show_range(
+    alloc: Global,
+    edition: Edition,
+    snapshot: &mut Snapshot,
+    text: &str,
+) -> Result<String, CaseFault> {
     let (asked, chain) = split_word(text);
-    judge_chain(alloc, snapshot, chain)?;
+    judge_chain(alloc, edition, snapshot, chain)?;
     range_text(alloc, snapshot, &asked_range(alloc, asked)?)
 }
 
@@ -73,15 +86,17 @@ fn write_entry(
     write_version(answer, Some(version))
 }
 
-/// The flags of the blocks of a chain, which are added to the snapshot.
+/// The flags of the blocks of a chain under an edition of the rules. They are added to the
+/// snapshot.
 pub fn judge_chain(
     alloc: Global,
+    edition: Edition,
     snapshot: &mut Snapshot,
     chain: &str,
 ) -> Result<String, CaseFault> {
     let mut answer = String::new(alloc);
     for text in chain.split(" / ") {
-        judge_block(alloc, &mut answer, snapshot, text)?;
+        judge_block(alloc, edition, &mut answer, snapshot, text)?;
     }
     Ok(answer)
 }
@@ -89,6 +104,7 @@ pub fn judge_chain(
 /// Adds the flags of the next block to the answer, and the block to the snapshot.
 fn judge_block(
     alloc: Global,
+    edition: Edition,
     answer: &mut String,
     snapshot: &mut Snapshot,
     text: &str,
@@ -102,13 +118,14 @@ fn judge_block(
         text,
     )?;
     let block = next_block(snapshot, envelopes)?;
-    let judged = judged(alloc, answer, snapshot, &block, &endorsed)?;
+    let judged = judged(alloc, edition, answer, snapshot, &block, &endorsed)?;
     Ok(snapshot.extend(alloc, block, judged)?)
 }
 
 /// What the next block is judged to be, whose flags are added to the answer.
 fn judged(
     alloc: Global,
+    edition: Edition,
     answer: &mut String,
     snapshot: &Snapshot,
     block: &Block,
@@ -120,7 +137,7 @@ fn judged(
         return Err(CaseFault::BadLine);
     }
     separate(answer, " /")?;
-    let judged = flag_block(alloc, snapshot, block, endorsed)?;
+    let judged = flag_block(alloc, edition, snapshot, block, endorsed)?;
     write_flags(answer, &judged.flags)?;
     Ok(judged)
 }

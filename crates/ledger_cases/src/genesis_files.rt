@@ -47,13 +47,14 @@ fn contents(alloc: Global, genesis: &Genesis) -> Result<String, AllocError> {
     )?;
     write!(
         text,
-        " seats={} queue={} count={} preferred={} absolute={} reorder={} installed=",
+        " seats={} queue={} count={} preferred={} absolute={} reorder={} rules={} installed=",
         genesis.seats,
         genesis.queue,
         genesis.count,
         genesis.preferred,
         genesis.absolute,
-        genesis.reorder
+        genesis.reorder,
+        genesis.rules.edition().number()
     )?;
     write_installed(&mut text, book.installed().modules())?;
     Ok(text)

@@ -26,7 +26,9 @@
 //!   the bytes spell, and whether its own bytes are the same, or `refused NUMBER`;
 //! - `tx_id HEX`: the id of the payload's proposal; `hashes HEX`: those of the block's header and
 //!   data;
-//! - `tag KEY HEX`: the tag of the bytes under the key, which is one piece.
+//! - `tag KEY HEX`: the tag of the bytes under the key, which is one piece;
+//! - `bound NAME DIGEST HEX`: the signature of the bytes for the ledger whose genesis file has this
+//!   digest, which is one piece, by the seed that is the name with zeros behind it.
 //!
 //! Of policies, where names stand between commas and `-` is none:
 //!
@@ -36,11 +38,12 @@
 //!   shared key is its name; one with a `!` behind its name has a public key, whose seed is the
 //!   name with zeros behind it. A tag is the name that it comes under, a sign, and the name of
 //!   whose key makes it: `/` for an HMAC under the name, `!` for a signature by the seed, `~` for
-//!   that one with a bit of its last byte turned, `?` for an HMAC under the seed's public key. The
-//!   text is the policy of calls and of upgrades, and of modules one is installed, of profile 1,
-//!   whose digest has the byte 7. The envelope's transaction calls `kv` and reads its definition as
-//!   absent; ` | WORDS` behind the text is another one, and ` / CHAIN` behind these a chain by
-//!   whose state it is judged.
+//!   that one with a bit of its last byte turned, `?` for an HMAC under the seed's public key,
+//!   `@` for a signature for the ledger of cases, whose digest has 32 bytes 07, and `*` for one for
+//!   a ledger of 32 bytes 08. The text is the policy of calls and of upgrades, and of modules one
+//!   is installed, of profile 1, whose digest has the byte 7. The envelope's transaction calls `kv`
+//!   and reads its definition as absent; ` | WORDS` behind the text is another one, and ` / CHAIN`
+//!   behind these a chain by whose state it is judged.
 //!
 //! `event TEXT` tells what a line of an events file asks for, with bytes in hex and `-` for none,
 //! `genesis TEXT` what the genesis has that the text spells, or why it spells none, and
@@ -61,14 +64,16 @@
 //! - `flags CHAIN`: the flags of each block, each judged after those before it;
 //! - `state CHAIN`, `get KEY CHAIN`, `range START..END*LIMIT CHAIN`: the state after the chain so
 //!   judged, what it has at a key, and its first entries of a range;
-//! - `call STATE | ARGUMENT | MEMORY | CALL | ..`: what the host answers to each call on the state
-//!   that the writes leave, the memory after them, where it changed, and what was recorded. The
+//! - `call STATE | ARGUMENT | MEMORY | CALL | ..`: what the host answers to each call of `kv` on the
+//!   state that the writes leave, the memory after them, where it changed, and what was recorded. The
 //!   argument and the memory are in hex, and a call is its name and its numbers;
 //! - `simulate NAME FUEL HEX | ARGUMENT | ..`: the payload or the refusal of each call of `kv` by
 //!   the book that has the module of profile 1 under a name, on the state that the earlier calls
 //!   leave; `simulate2 ..` the same of profile 2. What begins with such a word and a colon is an
 //!   upgrade or an amendment, as above: the module's digest has the byte 7, and `A` is an
 //!   organisation.
+//!
+//! `under 2` in front of `endorsed` and of these verbs asks for their answer under rules 2.
 #![tactic(auto)]
 
 mod bytes;

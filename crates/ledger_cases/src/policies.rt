@@ -3,10 +3,10 @@
 use crate::bytes::split_word;
 use crate::chains::judge_chain;
 use crate::fault::CaseFault;
-use crate::tags::{endorsements_of, organisations_of, orgs_of};
+use crate::tags::{LEDGER, endorsements_of, organisations_of, orgs_of};
 use crate::transactions::{chaincode_name, payload_of};
 use endorsement_policy::{ChaincodePolicy, Installed, ModuleId, Rules, is_endorsed, satisfied};
-use fab_types::Envelope;
+use fab_types::{Edition, Envelope};
 use policy_language::{OrgSet, Policy, parse};
 use std::alloc::Global;
 use wasm_profile::Profile;
@@ -58,20 +58,21 @@ fn case_of(rest: &str) -> Case<'_> {
     }
 }
 
-/// Whether an envelope with these tags is endorsed under the policy, on the state after the chain,
-/// which may be empty.
+/// Whether an envelope with these tags is endorsed under the policy and the rules of an edition, on
+/// the state after the chain, which may be empty.
 pub fn show_endorsed(
     alloc: Global,
+    edition: Edition,
     snapshot: &mut Snapshot,
     rest: &str,
 ) -> Result<String, CaseFault> {
     let case = case_of(rest);
     if !case.chain.is_empty() {
-        judge_chain(alloc, snapshot, case.chain)?;
+        judge_chain(alloc, edition, snapshot, case.chain)?;
     }
     let endorsed = is_endorsed(
         alloc,
-        &rules_of(alloc, case.known, case.text)?,
+        &rules_of(alloc, edition, case.known, case.text)?,
         snapshot,
         &envelope_of(alloc, case.tags, case.words)?,
     );
@@ -84,11 +85,11 @@ fn policy_of(alloc: Global, known: &str, text: &str) -> Result<Policy, CaseFault
 }
 
 /// The organisations with their keys, the policy of calls and of upgrades, and a module.
-fn rules_of(alloc: Global, known: &str, text: &str) -> Result<Rules, CaseFault> {
-    let installed = installed(alloc, known)?;
+fn rules_of(alloc: Global, edition: Edition, known: &str, text: &str) -> Result<Rules, CaseFault> {
+    let installed = installed(alloc, edition, known)?;
     let policies = policies_of(alloc, known, text)?;
     let upgrade = policy_of(alloc, known, text)?;
-    Rules::new(policies, upgrade, installed).ok_or(CaseFault::BadLine)
+    Rules::new(LEDGER, edition, policies, upgrade, installed).ok_or(CaseFault::BadLine)
 }
 
 /// The policy of calls.
@@ -99,13 +100,14 @@ fn policies_of(alloc: Global, known: &str, text: &str) -> Result<Vec<ChaincodePo
 }
 
 /// A module of profile 1 whose digest has bytes 7, and the organisations.
-fn installed(alloc: Global, known: &str) -> Result<Installed, CaseFault> {
+fn installed(alloc: Global, edition: Edition, known: &str) -> Result<Installed, CaseFault> {
     let id = ModuleId {
         digest: [7; 32],
         profile: Profile::Core1,
     };
     let modules = vec![in alloc; id]?;
-    Ok(Installed::new(alloc, modules, organisations_of(alloc, known)?)?)
+    let organisations = organisations_of(alloc, edition, known)?;
+    Ok(Installed::new(alloc, modules, organisations)?)
 }
 
 /// The transaction of these words, with these tags.

@@ -4,8 +4,8 @@ use crate::fault::CaseFault;
 use crate::hosts::run_on_answer;
 use crate::steps::{step_to_end, trace};
 use crate::texts::write_hex;
-use fab_types::{Value, WriteItem, WriteSet};
-use host_api::{PlainMap, Recorder};
+use fab_types::{Namespace, Value, WriteItem, WriteSet};
+use host_api::{Given, PlainMap, Recorder};
 use interp::{Host, Outcome, run};
 use std::alloc::{AllocError, Global};
 use wasm_ast::HostAnswer;
@@ -85,7 +85,8 @@ pub fn run_invoke(
 ) -> Result<String, AllocError> {
     let state = PlainMap::empty(alloc);
     let argument = Value::new(Vec::new(alloc)).unwrap();
-    let mut recorder = Recorder::new(alloc, &state, &argument);
+    let given = Given::new(&argument, Namespace::all());
+    let mut recorder = Recorder::new(alloc, &state, given);
     let outcome = outcome_of(alloc, valid, &mut recorder, fuel, runner, shown);
     run_answer(alloc, outcome, &recorder.into_parts().writes)
 }

@@ -8,7 +8,7 @@ use crate::tags::organisations_of;
 use crate::texts::{separate, write_payload};
 use crate::transactions::{call_with, change_of, name_of, unendorsed};
 use endorsement_policy::{Installed, ModuleId};
-use fab_types::{Flag, Payload, Proposal, Value};
+use fab_types::{Edition, Flag, Payload, Proposal, Value};
 use simulator::{Book, Chaincode, SimRefusal, simulate};
 use std::alloc::{AllocError, Global};
 use std::fmt::Write;
@@ -19,21 +19,27 @@ use world_state::Snapshot;
 /// The payload or the refusal of each call of a module of a profile.
 pub fn simulate_calls(
     alloc: Global,
+    edition: Edition,
     snapshot: &mut Snapshot,
     text: &str,
     profile: Profile,
 ) -> Result<String, CaseFault> {
     let (head, calls) = text.split_once(" |").ok_or(CaseFault::BadLine)?;
-    let book = book_of(alloc, head, profile)?;
+    let book = book_of(alloc, edition, head, profile)?;
     call_each(alloc, &book, snapshot, calls)
 }
 
 /// The book that has the module of a profile under a name, by `NAME FUEL MODULE`.
-fn book_of(alloc: Global, head: &str, profile: Profile) -> Result<Book, CaseFault> {
+fn book_of(
+    alloc: Global,
+    edition: Edition,
+    head: &str,
+    profile: Profile,
+) -> Result<Book, CaseFault> {
     let installed = installed(alloc, profile)?;
     let chaincodes = chaincodes_of(alloc, head, profile)?;
     let (modules, held) = (Vec::new(alloc), Vec::new(alloc));
-    Book::new(chaincodes, modules, installed, held).ok_or(CaseFault::BadLine)
+    Book::new(edition, chaincodes, modules, installed, held).ok_or(CaseFault::BadLine)
 }
 
 /// The one chaincode of the book.
@@ -49,7 +55,8 @@ fn chaincodes_of(alloc: Global, head: &str, profile: Profile) -> Result<Vec<Chai
 fn installed(alloc: Global, profile: Profile) -> Result<Installed, CaseFault> {
     let digest = [7; 32];
     let modules = vec![in alloc; ModuleId { digest, profile }]?;
-    Ok(Installed::new(alloc, modules, organisations_of(alloc, "A")?)?)
+    let organisations = organisations_of(alloc, Edition::First, "A")?;
+    Ok(Installed::new(alloc, modules, organisations)?)
 }
 
 /// The valid module of a profile that the bytes spell. A bad line where they spell none.

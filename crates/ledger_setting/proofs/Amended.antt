@@ -97,28 +97,33 @@ upgraded listed chain flags name value some is =
     last_is listed (IsUpgrade listed name value) chain (definition_key name) value flags is (λ before t member met wrote.
     upgrades listed name some before t.envelope.payload.proposal t refl met value wrote)
 
--- ---- blocks within the limits have upgrades of chaincodes with names
+-- ---- what holds of each proposal within the limits
 
+module _ (P : Proposal → Type 0) (by : (q : Proposal) → IsProposal q → P q) where
+  abbrev Proposes : Placed → Type 0
+  Proposes t = P t.envelope.payload.proposal
+
+  -- the transactions of a block, and later ones
+  block_proposes : (block place : ℕ) (es : List Envelope) (fs : List Flag) (later : List Placed) → AllByRecursion IsEnvelope es →
+      AllByRecursion Proposes later → AllByRecursion Proposes (transactions_from block place es fs ++ later)
+  block_proposes block place [] fs later known h = h
+  block_proposes block place (e ∷ es) [] later known h = h
+  block_proposes block place (e ∷ es) (f ∷ fs) later known h =
+      (by e.payload.proposal known.0.payload.proposal, block_proposes block (suc place) es fs later known.1 h)
+
+  chain_proposes : (block : ℕ) (cs : Chain) → AllByRecursion (λ (c : Committed). IsBlock c.block) cs → AllByRecursion Proposes (placed_from block cs)
+  chain_proposes block [] known = tt
+  chain_proposes block (c ∷ cs) known =
+      block_proposes block 0 c.block.envelopes c.flags (placed_from (suc block) cs) known.0.each_envelope (chain_proposes (suc block) cs known.1)
+
+  pub each_proposes : (chain : Chain) → AreBlocks chain → AllByRecursion Proposes (history chain)
+  each_proposes chain h = chain_proposes 1 chain h
+
+-- upgrades are of chaincodes with names
 named_by : (q : Proposal) → IsProposal q → IsNamed q
 named_by (proposal.Call c) known = tt
 named_by (proposal.Upgrade u) known = known.chaincode.0
 named_by (proposal.Amend a) known = tt
 
-abbrev Named : Placed → Type 0
-Named t = IsNamed t.envelope.payload.proposal
-
--- the transactions of a block, and later ones
-named_block : (block place : ℕ) (es : List Envelope) (fs : List Flag) (later : List Placed) → AllByRecursion IsEnvelope es → AllByRecursion Named later →
-    AllByRecursion Named (transactions_from block place es fs ++ later)
-named_block block place [] fs later known h = h
-named_block block place (e ∷ es) [] later known h = h
-named_block block place (e ∷ es) (f ∷ fs) later known h =
-    (named_by e.payload.proposal known.0.payload.proposal, named_block block (suc place) es fs later known.1 h)
-
-named_all : (block : ℕ) (cs : Chain) → AllByRecursion (λ (c : Committed). IsBlock c.block) cs → AllByRecursion Named (placed_from block cs)
-named_all block [] known = tt
-named_all block (c ∷ cs) known =
-    named_block block 0 c.block.envelopes c.flags (placed_from (suc block) cs) known.0.each_envelope (named_all (suc block) cs known.1)
-
 pub named_blocks : (chain : Chain) → AreBlocks chain → AreNamed chain
-named_blocks chain h = named_all 1 chain h
+named_blocks chain h = each_proposes IsNamed named_by chain h

@@ -14,12 +14,12 @@ use Rattle.ledger_setting.specs.Rule.{table_of}
 
 pub flags_judged : (listed : Listed) (chain : Chain) (b : Block) (answers : List Bool) → Fits (blocks_of chain) b →
     answers ≡ map (is_endorsed listed (state (history chain))) b.envelopes →
-    flags_told id_of (history chain) b.header.number 0 b.envelopes answers
+    flags_told listed.edition id_of (history chain) (history chain) b.header.number 0 b.envelopes answers
     ≡ judge (table_of listed (history chain)) (history chain) (length chain + 1) 0 b.envelopes
 flags_judged listed chain b answers fits same =
     let ts = history chain in
     let es = b.envelopes in
     let number : b.header.number ≡ length chain + 1 = omega (arith, fits.number, length_map (λ x. x.block) chain) in
-    ap (flags_told id_of ts b.header.number 0 es) same
-    ∙ told_judged id_of (is_endorsed listed (state ts)) ts b.header.number 0 es
+    ap (flags_told listed.edition id_of ts ts b.header.number 0 es) same
+    ∙ told_judged listed.edition id_of (is_endorsed listed (state ts)) ts ts b.header.number 0 es
     ∙ ap (λ (n : ℕ). judge (table_of listed ts) ts n 0 es) number

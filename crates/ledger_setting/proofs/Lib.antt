@@ -2,4 +2,5 @@ pub mod Judged
 pub mod Written
 pub mod Standing
 pub mod Amended
+pub mod Owned
 pub mod Once

@@ -24,7 +24,7 @@ use Rattle.wire.specs.Ids.{id_of}
 use Rattle.ledger_model.specs.Chain.{Bytes, Chain, Committed, Flag, Placed, Valid, Version, history, is_valid, placed_from, transactions_from}
 use Rattle.ledger_model.specs.Defined.{AreOf, IsOfOther, Puts}
 use Rattle.ledger_model.specs.Flags.{reads_current, same_version, version_at}
-use Rattle.ledger_model.specs.Judged.{AreFlagsBy, HasFlagsBy, block_of, by_table}
+use Rattle.ledger_model.specs.Judged.{AreFlagsBy, FlagRule, HasFlagsBy, block_of, by_table}
 use Rattle.ledger_model.specs.State.{last_write, state, value_and_version, write_of, write_to}
 use Rattle.ledger_model.specs.Views.{Versioned, values_of}
 use Rattle.ledger_model.proofs.Checks.{optional_same, valid_line}
@@ -112,8 +112,11 @@ module _ (listed : Listed) (before : Chain) (key : Bytes) (hidden : is_shown key
   abbrev endorsed : Envelope → Bool
   endorsed e = is_endorsed listed there e
 
+  abbrev rule : FlagRule
+  rule = by_table listed.edition id_of endorsed (history before)
+
   abbrev IsFlagged : List Placed → Placed → Type 0
-  IsFlagged done t = t.flag ≡ by_table id_of endorsed (history before ++ done) t.envelope
+  IsFlagged done t = t.flag ≡ rule (history before ++ done) t.envelope
 
   abbrev IsHere : Placed → Type 0
   IsHere t = t.version.block ≡ number
@@ -127,7 +130,8 @@ module _ (listed : Listed) (before : Chain) (key : Bytes) (hidden : is_shown key
   are_of done t here flagged = record {
     block = here;
     puts = λ v.
-        let line = valid_line id_of (history before ++ done) (endorsed t.envelope) t.envelope.payload (sym flagged ∙ valid_flag t.flag v) in
+        let line = valid_line listed.edition id_of (history before) (history before ++ done) (endorsed t.envelope) t.envelope.payload
+        (sym flagged ∙ valid_flag t.flag v) in
         let q = t.envelope.payload.proposal in
         puts q (write_to t.envelope.payload.writes key) (written key hidden q (listed_in listed (values_of there)) there t.envelope line.0);
   }
@@ -183,7 +187,7 @@ module _ (listed : Listed) (before : Chain) (key : Bytes) (hidden : is_shown key
       is t.envelope.payload.proposal ≡ true → IsWritten_in done → ⊥
   alone done t are flagged v such wrote =
       let p = t.envelope.payload in
-      let line = valid_line id_of (history before ++ done) (endorsed t.envelope) p (sym flagged ∙ v) in
+      let line = valid_line listed.edition id_of (history before) (history before ++ done) (endorsed t.envelope) p (sym flagged ∙ v) in
       let of = kind p.proposal t.envelope such line.0 in
       let read = of.is.read in
       let r = read.item in
@@ -204,9 +208,9 @@ module _ (listed : Listed) (before : Chain) (key : Bytes) (hidden : is_shown key
   such_count [] = 0
   such_count (t ∷ ts) = cond (is_valid_such is t) (1 + such_count ts) (such_count ts)
 
-  flagged_on : (done : List Placed) (t : Placed) (ts : List Placed) → HasFlagsBy (by_table id_of endorsed) ((history before ++ done) ++ t ∷ []) ts →
-      HasFlagsBy (by_table id_of endorsed) (history before ++ (done ++ t ∷ [])) ts
-  flagged_on done t ts h = subst (λ (d : List Placed). HasFlagsBy (by_table id_of endorsed) d ts) (append_assoc (history before) done (t ∷ [])) h
+  flagged_on : (done : List Placed) (t : Placed) (ts : List Placed) → HasFlagsBy rule ((history before ++ done) ++ t ∷ []) ts →
+      HasFlagsBy rule (history before ++ (done ++ t ∷ [])) ts
+  flagged_on done t ts h = subst (λ (d : List Placed). HasFlagsBy rule d ts) (append_assoc (history before) done (t ∷ [])) h
 
   are_more : (done : List Placed) (t : Placed) → AllByRecursion (AreOf number key) done → AreOf number key t →
       AllByRecursion (AreOf number key) (done ++ t ∷ [])
@@ -214,7 +218,7 @@ module _ (listed : Listed) (before : Chain) (key : Bytes) (hidden : is_shown key
   are_more (d ∷ done) t h k = (h.0, are_more done t h.1 k)
 
   none_after : (done ts : List Placed) → AllByRecursion (AreOf number key) done → AllByRecursion IsHere ts →
-      HasFlagsBy (by_table id_of endorsed) (history before ++ done) ts → IsWritten_in done → such_count ts ≡ 0
+      HasFlagsBy rule (history before ++ done) ts → IsWritten_in done → such_count ts ≡ 0
   none_after done [] are here flags wrote = refl
   none_after done (t ∷ ts) are here flags wrote =
       let rest = none_after (done ++ t ∷ []) ts (are_more done t are (are_of done t here.0 flags.0)) here.1 (flagged_on done t ts flags.1)
@@ -228,17 +232,17 @@ module _ (listed : Listed) (before : Chain) (key : Bytes) (hidden : is_shown key
   -- behind the first one
   behind : (done : List Placed) (t : Placed) (ts : List Placed) → AllByRecursion (AreOf number key) done →
       AllByRecursion (AreOf number key) (done ++ t ∷ []) → AllByRecursion IsHere (t ∷ ts) →
-      HasFlagsBy (by_table id_of endorsed) (history before ++ done) (t ∷ ts) → is_valid_such is t ≡ true → such_count ts ≡ 0
+      HasFlagsBy rule (history before ++ done) (t ∷ ts) → is_valid_such is t ≡ true → such_count ts ≡ 0
   behind done t ts are longer here flags e =
       let such = and_parts (is_valid t.flag) (is t.envelope.payload.proposal) e in
       let p = t.envelope.payload in
-      let line = valid_line id_of (history before ++ done) (endorsed t.envelope) p (sym flags.0 ∙ valid_flag t.flag such.0) in
+      let line = valid_line listed.edition id_of (history before) (history before ++ done) (endorsed t.envelope) p (sym flags.0 ∙ valid_flag t.flag such.0) in
       let of = kind p.proposal t.envelope such.1 line.0 in
       let wrote = first done t such.0 of.value (written_here key of.value p.writes of.is.put) in
       none_after (done ++ t ∷ []) ts longer here.1 (flagged_on done t ts flags.1) wrote
 
   one_at_most : (done ts : List Placed) → AllByRecursion (AreOf number key) done → AllByRecursion IsHere ts →
-      HasFlagsBy (by_table id_of endorsed) (history before ++ done) ts → such_count ts ≤ 1
+      HasFlagsBy rule (history before ++ done) ts → such_count ts ≤ 1
   one_at_most done [] are here flags = omega arith
   one_at_most done (t ∷ ts) are here flags =
       let longer = are_more done t are (are_of done t here.0 flags.0) in
@@ -253,13 +257,13 @@ module _ (listed : Listed) (before : Chain) (key : Bytes) (hidden : is_shown key
   of_block place (e ∷ es) [] = tt
   of_block place (e ∷ es) (f ∷ fs) = (refl, of_block (suc place) es fs)
 
-  once : (block : Committed) → HasFlagsBy (by_table id_of endorsed) (history before) (block_of before block) →
+  once : (block : Committed) → HasFlagsBy rule (history before) (block_of before block) →
       count_by (is_valid_such is) (block_of before block) ≤ 1
   once block flags =
       let ts = block_of before block in
       subst (λ (n : ℕ). n ≤ 1) (is_count_by such_count (is_valid_such is) refl (λ t us. refl) ts)
       (one_at_most [] ts tt (of_block 0 block.block.envelopes block.flags)
-      (subst (λ (d : List Placed). HasFlagsBy (by_table id_of endorsed) d ts) (sym (append-nil (history before))) flags))
+      (subst (λ (d : List Placed). HasFlagsBy rule d ts) (sym (append-nil (history before))) flags))
 
 -- the flags of one block
 flags_at : (listed : Listed) (done before : Chain) (block : Committed) (after : Chain) → AreFlagsBy (table_of listed) done (before ++ block ∷ after) →

@@ -96,7 +96,7 @@ last_is listed Is chain key value flags is such =
     let t = by.by in
     let wrote = written_by t key (entry.0, Some value) by.is in
     let valid = valid_flag t.flag (writes_valid (is_valid t.flag) _ (entry.0, Some value) by.is) in
-    let endorsed = judged_endorsed id_of (λ before. is_endorsed listed (state before)) [] chain flags in
+    let endorsed = judged_endorsed listed.edition id_of (λ before. is_endorsed listed (state before)) [] chain flags in
     let stands = of_member (IsStanding listed chain) t ts (each_stands listed chain [] chain refl endorsed) by.member valid in
     record {
       before = stands.before;

@@ -17,7 +17,7 @@ use Rattle.ledger_model.specs.State.{write_to}
 use Rattle.ledger_model.specs.Views.{Versioned, key_cmp, values_of}
 use Rattle.ledger_model.proofs.Keys.{by_key, tie_self}
 use Rattle.endorsement_policy.specs.Endorsed.{Listed, is_endorsed_as, is_met_by, names_no_other, policy_in, reads_no_other, reads_own, right_orgs}
-use Rattle.endorsement_policy.specs.Endorsed.{writes_shown}
+use Rattle.endorsement_policy.specs.Endorsed.{writes_own, writes_shown}
 use Rattle.endorsement_policy.proofs.Parts.{IsOnePut, amend_met, paid, upgrade_met}
 
 pub valid_flag : (f : Flag) → is_valid f ≡ true → f ≡ Valid
@@ -27,7 +27,7 @@ valid_flag MvccReadConflict e = absurd cc
 valid_flag PhantomReadConflict e = absurd cc
 valid_flag DuplicateTxid e = absurd cc
 
-true_false : true ≡ false → ⊥
+pub true_false : true ≡ false → ⊥
 true_false e = cc
 
 -- the one write of an upgrade or an amendment, at its key and at no other
@@ -49,7 +49,7 @@ written_elsewhere key other value ws apart h =
 abbrev pub IsOwn : (key other value : Bytes) → Option (Option Bytes) → Type 0
 IsOwn key other value o = (o ≡ None) ⊎ ((key ≡ other) × (o ≡ Some (Some value)))
 
-own_put : (key other value : Bytes) (ws : List WriteItem) → IsOnePut other value ws → IsOwn key other value (write_to ws key)
+pub own_put : (key other value : Bytes) (ws : List WriteItem) → IsOnePut other value ws → IsOwn key other value (write_to ws key)
 own_put key other value ws h = by_test (eq_by_cmp key_cmp key other) refl
   where
     here : key ≡ other → IsOwn key other value (write_to ws key)
@@ -79,7 +79,9 @@ module _ (key : Bytes) (hidden : is_shown key ≡ false) where
   pub written : (q : Proposal) (r : Listed) (m : Versioned) (e : Envelope) → is_endorsed_as q r m e ≡ true → IsWritten q (write_to e.payload.writes key)
   written (proposal.Call c) r m e met =
       let p = e.payload in
-      let called = and_parts (reads_own p && names_no_other p) (is_met_by (right_orgs r.orgs e) (policy_in r (values_of m) c.chaincode)) met in
+      let whole = and_parts (reads_own p && names_no_other p && writes_own r.edition c.chaincode p)
+      (is_met_by (right_orgs r.orgs e) (policy_in r (values_of m) c.chaincode)) met in
+      let called = and_parts (reads_own p && names_no_other p) (writes_own r.edition c.chaincode p) whole.0 in
       let names = and_parts (reads_own p) (names_no_other p) called.0 in
       none_by_shown p.writes (and_parts (reads_no_other p) (writes_shown p) names.1).1
   written (proposal.Upgrade u) r m e met =

@@ -2,3 +2,4 @@ pub mod Rule
 pub mod Limits
 pub mod Judging
 pub mod Amended
+pub mod Owned

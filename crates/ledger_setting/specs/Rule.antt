@@ -12,7 +12,7 @@ use Rattle.ledger_model.specs.Views.{values_of}
 
 -- the table, where envelopes are endorsed as is judged in the state before the block
 abbrev pub table_of : Listed → BlockRule
-table_of listed = table id_of (λ before. is_endorsed listed (state before))
+table_of listed = table listed.edition id_of (λ before. is_endorsed listed (state before))
 
 -- whose tags on a payload are right, by the transactions before its block
 abbrev pub RightRule : Type 0

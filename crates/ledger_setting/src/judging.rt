@@ -144,7 +144,7 @@ pub fn judge_checked(
     ensures { IfOk result
         (λ judged. IsJudged (table_of rules.now) snapshot.now block.now judged) }
 {
-    let judged = flag_block(alloc, snapshot, block, endorsed)?;
+    let judged = flag_block(alloc, rules.edition(), snapshot, block, endorsed)?;
     Ok(judged)
 }
 

@@ -1,7 +1,8 @@
-//! Laws of memberships and definitions.
+//! Laws of memberships, of definitions and of the keys of chaincodes.
 
 ghost use Rattle.ledger_model.specs.Chain.{Bytes, Chain};
 ghost use Rattle.endorsement_policy.specs.Endorsed.{Listed};
+ghost use Rattle.ledger_setting.specs.Owned.{AreOwned};
 ghost use Rattle.ledger_setting.specs.Amended.{AreAmended, AreBlocks, AreNamed, AreUpgraded, IsOnceInABlock, is_amendment, is_upgrade_of};
 
 /// Who the members are is decided by members: in a chain with the table's flags, the last writer of
@@ -27,4 +28,12 @@ pub fn a_block_changes_a_key_once()
     ensures amendments { (listed : Listed) → IsOnceInABlock listed is_amendment }
     ensures upgrades { (listed : Listed) (name : Bytes) →
         IsOnceInABlock listed (is_upgrade_of name) }
+{}
+
+/// Under rules 2 what stands below a chaincode's name, and a `/`, was put by that chaincode: in a
+/// chain with the table's flags, of blocks within the limits, the last writer of such a key is a
+/// VALID call of it, on which right tags of those who stood before its block satisfied the policy
+/// that the chaincode had there.
+pub fn keys_are_put_by_their_chaincode()
+    ensures { (listed : Listed) → AreOwned listed }
 {}

@@ -11,5 +11,8 @@ pub use genesis::Genesis;
 pub use judging::{
     check_by_workers, commit, commit_by_workers, judge, judge_by_workers, judge_checked, judge_with,
 };
-pub use laws::{a_block_changes_a_key_once, definitions_are_upgraded, memberships_are_amended};
+pub use laws::{
+    a_block_changes_a_key_once, definitions_are_upgraded, keys_are_put_by_their_chaincode,
+    memberships_are_amended,
+};
 pub use verdict::Audit;

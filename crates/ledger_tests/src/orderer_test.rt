@@ -1,7 +1,7 @@
 //! The links of an orderer's blocks, and its last block. The hashes are those of another program.
 
 use crate::samples::{refusal_of, transaction};
-use fab_types::{Block, Envelope};
+use fab_types::{Block, Edition, Envelope};
 use orderer::Orderer;
 use std::alloc::{AllocError, Global};
 use std::test::Fail;
@@ -47,7 +47,7 @@ fn last_refusal(orderer: &mut Orderer, envelope: &Envelope, count: u32) -> Resul
     Ok(number)
 }
 
-/// Whether after 65,535 linked blocks of a transaction each the next is refused.
+/// Whether under rules 1 the next is refused after 65,535 linked blocks of a transaction each.
 fn is_full(alloc: Global, envelope: &Envelope) -> bool {
     let mut orderer = Orderer::new(alloc, 1, 100, 100, false);
     let is_refused = last_refusal(&mut orderer, envelope, 65_536) == Ok(422);
@@ -55,10 +55,20 @@ fn is_full(alloc: Global, envelope: &Envelope) -> bool {
     is_refused && all == 65_535 && last == 1 && are_linked(&orderer)
 }
 
+/// Whether an orderer under rules 2 takes one block more.
+fn goes_on(alloc: Global, envelope: &Envelope) -> bool {
+    let mut orderer = Orderer::with_edition(alloc, Edition::Second, 1, 100, 100, false);
+    let is_taken = last_refusal(&mut orderer, envelope, 65_536) == Ok(0);
+    is_taken && orderer.blocks().len() == 65_536
+}
+
 #[test]
 fn no_block_follows_the_last(rt: HostRuntime) -> Result<(), Fail> {
     let alloc = rt.alloc();
-    let is_full = is_full(alloc, &transaction(alloc, 0, b'a')?);
+    let envelope = transaction(alloc, 0, b'a')?;
+    let is_full = is_full(alloc, &envelope);
     assert!(rt; is_full);
+    let goes_on = goes_on(alloc, &envelope);
+    assert!(rt; goes_on);
     Ok(())
 }

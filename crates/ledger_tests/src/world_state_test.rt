@@ -2,7 +2,7 @@
 
 use crate::samples::{deletion, refusal_of, transaction};
 use committer::{Replay, commit_on};
-use fab_types::{Block, Bound, Envelope, Flag, Key, Value, Version};
+use fab_types::{Block, Bound, Edition, Envelope, Flag, Key, Value, Version};
 use orderer::Orderer;
 use std::alloc::{AllocError, Global};
 use std::test::Fail;
@@ -46,7 +46,7 @@ fn is_pushed(
     if block.envelopes.as_slice().len() != 1 {
         return Ok(false);
     }
-    match chain.push(alloc, block.clone()?, &[true]) {
+    match chain.push(alloc, Edition::First, block.clone()?, &[true]) {
         Ok(flags) => Ok(flags == [flag].as_slice()),
         Err(_) => Ok(false),
     }
@@ -132,7 +132,7 @@ fn are_put_behind(
     if next.envelopes.as_slice().len() != 1 {
         return Ok(false);
     }
-    match commit_on(alloc, old, next.clone()?, &[true]) {
+    match commit_on(alloc, Edition::First, old, next.clone()?, &[true]) {
         Ok(newest) => are_all(alloc, &mut Replay::new(newest), blocks),
         Err(_) => Ok(false),
     }

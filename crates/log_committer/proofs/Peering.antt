@@ -1,8 +1,10 @@
 -- A chain has each block that the log made; so a block of the log is refused only where the chain has another one of its number.
 use Rattle.std.proofs.Common.{inl, inr, ◌≡◌, ◌≢◌, ◌≤◌, ◌<◌, ◌⊎◌, ◌+◌, ℕ, zero, suc, List, [], ◌∷◌, ◌++◌, length, Option, Some, None, Result, Ok, refl, sym, ap, subst, ◌∙◌}
 use Rattle.std.proofs.Common.{append_assoc, append-nil, arith, length-append, option_map, slice_get}
+use Rattle.std.proofs.Math.Nat.{le_trans}
 use Rattle.std.proofs.lemmas.List.{append_cancel_left}
 use Rattle.std.proofs.lemmas.Option.{same_Some}
+use Rattle.fab_types.proofs.Editions.{last_block_most}
 use Rattle.fab_types.specs.declared.block.Block.{Block}
 use Rattle.wire.specs.Links.{AreLinked, link_from}
 use Rattle.ledger_model.specs.Chain.{Bytes, Chain, Committed, history}
@@ -114,7 +116,7 @@ has_hash (b ∷ log) (c ∷ chain) (suc (suc place)) hash h e = has_hash log cha
 -- ---- blocks of the log that are received
 
 one_received : (rule : BlockRule) (log : List Block) (chain next : Chain) (b : Block) (told : Received) → HasEach log chain → AreLinked [] (log ++ b ∷ []) →
-    length (log ++ b ∷ []) ≤ 65535 → Receives rule chain b (Ok told) next → HasEach (log ++ b ∷ []) next
+    length (log ++ b ∷ []) ≤ 4000000000 → Receives rule chain b (Ok told) next → HasEach (log ++ b ∷ []) next
 one_received rule log chain next b received.Committed has linked few is =
     let c : Committed = record { block = b; flags = judge (rule (history chain)) (history chain) (length chain + 1) 0 b.envelopes } in
     let number = next_number_is log [] b linked in
@@ -136,7 +138,7 @@ one_received rule log chain next b received.Known has linked few is =
     }
 
 pub all_received : (rule : BlockRule) (log : List Block) (old new : Chain) (blocks : List Block) (told : List Received) → HasEach log old →
-    AreLinked [] (log ++ blocks) → length (log ++ blocks) ≤ 65535 → ReceivesAll rule old blocks told new → HasEach (log ++ blocks) new
+    AreLinked [] (log ++ blocks) → length (log ++ blocks) ≤ 4000000000 → ReceivesAll rule old blocks told new → HasEach (log ++ blocks) new
 all_received rule log old new [] told has linked few is =
     subst (λ (bs : List Block). HasEach bs new) (sym (append-nil log)) (subst (λ (c : Chain). HasEach log c) (sym is.1) has)
 all_received rule log old new (b ∷ blocks) told has linked few is =
@@ -182,7 +184,7 @@ no_longer rule log old new (b ∷ blocks) told linked is =
 -- ---- a block of the log that is refused
 
 fits_next : (log : List Block) (chain : Chain) (b : Block) (back : List Block) → HasEach log chain → AreLinked [] (log ++ b ∷ back) →
-    length (log ++ b ∷ back) ≤ 65535 → length log ≡ length chain → Fits (blocks_of chain) b
+    length (log ++ b ∷ back) ≤ 4000000000 → length log ≡ length chain → Fits (blocks_of chain) b
 fits_next log chain b back has linked few tall =
     let header = (linked_parts [] log (b ∷ back) linked).1.0 in
     let number = ap (λ h. h.number) header in
@@ -195,13 +197,13 @@ fits_next log chain b back has linked few tall =
     }
 
 pub cut_short : (rule : BlockRule) (log : List Block) (old : Chain) (blocks : List Block) (cause : ReceiveRefusal) → HasEach log old →
-    AreLinked [] (log ++ blocks) → length (log ++ blocks) ≤ 65535 → AreCutShort rule old blocks cause → IsRefusedFor (log ++ blocks) old cause
+    AreLinked [] (log ++ blocks) → length (log ++ blocks) ≤ 4000000000 → AreCutShort rule old blocks cause → IsRefusedFor (log ++ blocks) old cause
 cut_short rule log old blocks (Unfit cause) has linked few is =
     let front = log ++ is.front in
     let whole : log ++ blocks ≡ front ++ is.block ∷ is.back =
     ap (λ (bs : List Block). log ++ bs) is.parts ∙ sym (append_assoc log is.front (is.block ∷ is.back)) in
     let all = subst (λ (bs : List Block). AreLinked [] bs) whole linked in
-    let many = subst (λ (bs : List Block). length bs ≤ 65535) whole few in
+    let many = subst (λ (bs : List Block). length bs ≤ 4000000000) whole few in
     let sum = length-append front (is.block ∷ is.back) in
     let now = all_received rule log old is.between is.front is.told has (linked_parts [] front (is.block ∷ is.back) all).0 (omega (arith, many, sum))
     is.received in
@@ -240,14 +242,14 @@ cut_short rule log old blocks (Forked n) has linked few is =
 -- ---- a line
 
 abbrev pub IsChainOfLog : List Block → Type 0
-IsChainOfLog log = AreLinked [] log × (length log ≤ 65535)
+IsChainOfLog log = AreLinked [] log × (length log ≤ 4000000000)
 
 line_linked : (old new : Ordering) (line : Bytes) (answer : Option (List BatchReport)) → IsChainOfLog old.chain → Reads old line answer new →
     IsChainOfLog new.chain
 line_linked old new line None was reads = subst (λ (o : Ordering). IsChainOfLog o.chain) (sym reads.1) was
 line_linked old new line (Some reports) was reads =
     let takes = reads.2 in
-    (each_linked (arranges_by old.reorder) old.chain takes.0.batches reports new.chain takes.0.added was.0, takes.2)
+    (each_linked (arranges_by old.reorder) old.chain takes.0.batches reports new.chain takes.0.added was.0, le_trans takes.2 (last_block_most old.edition))
 
 -- a line that is read
 pub line_kept : (rule : BlockRule) (old : Held) (line : Bytes) (report : LineReport) (told : List Received) (log : Ordering) (chain : Chain) →

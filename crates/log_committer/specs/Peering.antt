@@ -45,7 +45,7 @@ BeginsAs (block ∷ log) (own ∷ chain) = (header_hash block ≡ header_hash ow
 -- the blocks that the lines made are linked and numbered, and the chain has each of them
 pub record HasEach (log : List Block) (chain : Chain) : Type 0 where
   pub linked : AreLinked [] log
-  pub few : length log ≤ 65535
+  pub few : length log ≤ 4000000000
   pub same : BeginsAs log chain
 
 -- ---- why a line is not read

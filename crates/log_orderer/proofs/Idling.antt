@@ -1,5 +1,6 @@
 -- A tick where nothing waits.
 use Rattle.std.proofs.Common.{inl, inr, ◌≡◌, ◌≤◌, ◌⊎◌, ◌++◌, List, [], ◌∷◌, length, map, codes, Option, Some, None, refl, sym, ap, subst, ◌∙◌, arith}
+use Rattle.fab_types.specs.Editions.{last_block}
 use Rattle.fab_types.specs.Size.{envelope_size}
 use Rattle.fab_types.specs.declared.block.Block.{Block}
 use Rattle.fab_types.specs.declared.envelope.Envelope.{Envelope}
@@ -38,25 +39,25 @@ idle_taken : (old new : Ordering) (reports : List BatchReport) → old.pending �
 idle_taken old new reports none takes =
     let cut = alone old takes.batches new.pending none takes.cut in
     let added = subst (λ (bs : List (List Envelope)). AddsEach (arranges_by old.reorder) old.chain bs reports new.chain) cut.0 takes.added in
-    (added.0, same_ordering new old takes.reorder takes.limits (cut.1 ∙ sym none) added.1)
+    (added.0, same_ordering new old takes.edition takes.reorder takes.limits (cut.1 ∙ sym none) added.1)
 
 no_first : (first others : List (List Envelope)) → first ++ others ≡ [] → first ≡ []
 no_first [] others h = refl
 no_first (batch ∷ first) others h = cc
 
-idle_room : (old : Ordering) → old.pending ≡ [] → length old.chain ≤ 65535 → RunsOut old timeout → ⊥
+idle_room : (old : Ordering) → old.pending ≡ [] → length old.chain ≤ last_block old.edition → RunsOut old timeout → ⊥
 idle_room old none room out =
     let cut = alone old (out.first ++ out.others) out.pending none out.cut in
     let first = no_first out.first out.others cut.0 in
     let added = subst (λ (bs : List (List Envelope)). AddsEach (arranges_by old.reorder) old.chain bs out.reports out.chain) first out.added in
     omega (arith, room, out.past, ap (λ (blocks : List Block). length blocks) added.1)
 
-idle_refused : (old : Ordering) → old.pending ≡ [] → length old.chain ≤ 65535 → (IsTooLarge old.limits timeout ⊎ RunsOut old timeout) → ⊥
+idle_refused : (old : Ordering) → old.pending ≡ [] → length old.chain ≤ last_block old.edition → (IsTooLarge old.limits timeout ⊎ RunsOut old timeout) → ⊥
 idle_refused old none room (inl large) = large
 idle_refused old none room (inr out) = idle_room old none room out
 
 -- a tick where nothing waits is taken, and changes nothing
-pub idle : OneMark → (old new : Ordering) (answer : Option (List BatchReport)) → old.pending ≡ [] → length old.chain ≤ 65535 →
+pub idle : OneMark → (old new : Ordering) (answer : Option (List BatchReport)) → old.pending ≡ [] → length old.chain ≤ last_block old.edition →
     Reads old (codes "tick") answer new → (answer ≡ Some []) × (new ≡ old)
 idle one old new (Some reports) none room reads =
     let takes = subst (λ (m : Mark Envelope). Takes old m reports new) (one (codes "tick") reads.0 timeout reads.1 refl) reads.2.0 in

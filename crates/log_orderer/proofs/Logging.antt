@@ -1,6 +1,7 @@
 -- Who reads one log makes one chain of it.
 use Rattle.std.proofs.Common.{inl, inr, ◌≡◌, ◌<◌, ◌⊎◌, ◌++◌, ℕ, List, [], ◌∷◌, length, Option, Some, None, refl, sym, ap, ap₂, subst, ◌∙◌, arith}
 use Rattle.std.proofs.lemmas.List.{append-nil}
+use Rattle.fab_types.specs.Editions.{last_block}
 use Rattle.fab_types.specs.declared.envelope.Envelope.{Envelope}
 use Rattle.batch_cutter.specs.Division.{Mark}
 use Rattle.orderer.specs.Adding.{BeginsWith}
@@ -20,9 +21,11 @@ OneAnswer =
     (old new other : Ordering) (mark : Mark Envelope) (reports left : List BatchReport) → Takes old mark reports new → Takes old mark left other →
     (reports ≡ left) × (new ≡ other)
 
--- who takes a mark that runs out goes past the last number
+-- who takes a mark that runs out goes past the last block
 abbrev pub GoesPast : Type 0
-GoesPast = (old new : Ordering) (mark : Mark Envelope) (reports : List BatchReport) → RunsOut old mark → Takes old mark reports new → 65535 < length new.chain
+GoesPast =
+    (old new : Ordering) (mark : Mark Envelope) (reports : List BatchReport) → RunsOut old mark → Takes old mark reports new →
+    last_block old.edition < length new.chain
 
 refused_taken : GoesPast → (old new : Ordering) (mark : Mark Envelope) (reports : List BatchReport) → (IsTooLarge old.limits mark ⊎ RunsOut old mark) →
     TakesMark old mark reports new → ⊥

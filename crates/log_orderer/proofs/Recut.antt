@@ -11,6 +11,7 @@ use Rattle.batch_cutter.specs.Division.{IsDivision, IsPending, Limits, Mark, mes
 use Rattle.batch_cutter.proofs.Divisions.{filled, kept, large_alone, nothing_cut, timeout_cuts}
 use Rattle.fab_types.specs.BlockSpelling.{envelope_bytes}
 use Rattle.fab_types.specs.BlockWithin.{IsEnvelope}
+use Rattle.fab_types.specs.Editions.{last_block}
 use Rattle.fab_types.specs.Size.{envelope_size}
 use Rattle.fab_types.specs.declared.block.Block.{Block}
 use Rattle.fab_types.specs.declared.block.Header.{Header}
@@ -47,7 +48,7 @@ pub record IsOwnBatch (limits : Limits) (reorder : Bool) (es : List Envelope) : 
 
 -- an orderer with this chain, where these wait
 abbrev pub at : Ordering → List Block → List Envelope → Ordering
-at o chain pending = record { reorder = o.reorder; limits = o.limits; pending = pending; chain = chain }
+at o chain pending = record { edition = o.edition; reorder = o.reorder; limits = o.limits; pending = pending; chain = chain }
 
 abbrev report_of : List Block → List Envelope → BatchReport
 report_of chain es = record { block = Some (next_number chain); count = length es; aborted = [] }
@@ -75,7 +76,7 @@ adds_own reorder chain (e ∷ es) some arranged =
 
 -- an envelope that waits with those before it
 waits_on : (o : Ordering) (chain : List Block) (done : List Envelope) (e : Envelope) → IsPending envelope_size o.limits (done ++ e ∷ [])
-    → IsTakable o.limits e → length chain ≤ 65535 → Reads (at o chain done) (envelope_mark e) (Some []) (at o chain (done ++ e ∷ []))
+    → IsTakable o.limits e → length chain ≤ last_block o.edition → Reads (at o chain done) (envelope_mark e) (Some []) (at o chain (done ++ e ∷ []))
 waits_on o chain done e waits t room =
     let takes : Takes (at o chain done) (message e) [] (at o chain (done ++ e ∷ [])) = record {
       batches = [];
@@ -83,13 +84,14 @@ waits_on o chain done e waits t room =
       added = (refl, refl);
       limits = refl;
       reorder = refl;
+      edition = refl;
     } in
     (message e, is_mark o.limits e t, (takes, (λ large. omega (arith, large, t.small)), room))
 
 -- a mark that cuts a batch of its own
 cuts_one : (o : Ordering) (chain : List Block) (done es : List Envelope) (mark : Mark Envelope) (line : List ℕ) → IsMark line mark
     → IsDivision envelope_size o.limits (map message done ++ mark ∷ []) (es ∷ []) [] → ¬ IsTooLarge o.limits mark → 0 < length es
-    → arranges_by o.reorder es (indices es) [] → length chain < 65535
+    → arranges_by o.reorder es (indices es) [] → length chain < last_block o.edition
     → Reads (at o chain done) line (Some (report_of chain es ∷ [])) (at o (chain ++ next_block chain es ∷ []) [])
 cuts_one o chain done es mark line is cut small some arranged room =
     let takes : Takes (at o chain done) mark (report_of chain es ∷ []) (at o (chain ++ next_block chain es ∷ []) []) = record {
@@ -98,11 +100,13 @@ cuts_one o chain done es mark line is cut small some arranged room =
       added = adds_own o.reorder chain es some arranged;
       limits = refl;
       reorder = refl;
+      edition = refl;
     } in
     (mark, is, (takes, small, omega (arith, room, length-append chain (next_block chain es ∷ []))))
 
 -- a tick where nothing waits
-idles : (o : Ordering) (chain : List Block) → 0 < o.limits.count → length chain ≤ 65535 → Reads (at o chain []) (codes "tick") (Some []) (at o chain [])
+idles : (o : Ordering) (chain : List Block) → 0 < o.limits.count → length chain ≤ last_block o.edition
+    → Reads (at o chain []) (codes "tick") (Some []) (at o chain [])
 idles o chain some room =
     let takes : Takes (at o chain []) timeout [] (at o chain []) = record {
       batches = [];
@@ -110,6 +114,7 @@ idles o chain some room =
       added = (refl, refl);
       limits = refl;
       reorder = refl;
+      edition = refl;
     } in
     (timeout, refl, (takes, (λ large. large), room))
 
@@ -124,7 +129,7 @@ ReadsRest o chain done rest =
 -- the last envelope ends the batch, and the tick finds nothing
 ended : (o : Ordering) (chain : List Block) (done : List Envelope) (e : Envelope) → AreLimits o.limits → IsTakable o.limits e
     → IsDivision envelope_size o.limits (map message done ++ message e ∷ []) ((done ++ e ∷ []) ∷ []) []
-    → arranges_by o.reorder (done ++ e ∷ []) (indices (done ++ e ∷ [])) [] → length chain < 65535 → ReadsRest o chain done (e ∷ [])
+    → arranges_by o.reorder (done ++ e ∷ []) (indices (done ++ e ∷ [])) [] → length chain < last_block o.edition → ReadsRest o chain done (e ∷ [])
 ended o chain done e bounds t cut arranged room =
     let es = done ++ e ∷ [] in
     let longer = chain ++ next_block chain es ∷ [] in
@@ -145,7 +150,7 @@ ended o chain done e bounds t cut arranged room =
 -- where the batch is full, nothing is left
 full : (o : Ordering) (chain : List Block) (done : List Envelope) (e : Envelope) (rest : List Envelope) → AreLimits o.limits
     → IsFew o.limits (done ++ e ∷ rest) → length done < o.limits.count → o.limits.count ≤ length done + 1 → IsTakable o.limits e
-    → arranges_by o.reorder (done ++ e ∷ rest) (indices (done ++ e ∷ rest)) [] → length chain < 65535 → ReadsRest o chain done (e ∷ rest)
+    → arranges_by o.reorder (done ++ e ∷ rest) (indices (done ++ e ∷ rest)) [] → length chain < last_block o.edition → ReadsRest o chain done (e ∷ rest)
 full o chain done e [] bounds few less past t arranged room =
     let sum = sum_by-append envelope_size done (e ∷ []) in
     let one = sum_by-cons envelope_size e [] in
@@ -156,7 +161,7 @@ full o chain done e (x ∷ rest) bounds few less past t arranged room =
 
 read_rest : (o : Ordering) (chain : List Block) (done rest : List Envelope) → AreLimits o.limits → IsFew o.limits (done ++ rest)
     → length done < o.limits.count → 0 < length (done ++ rest) → AllByRecursion (IsTakable o.limits) rest
-    → arranges_by o.reorder (done ++ rest) (indices (done ++ rest)) [] → length chain < 65535 → ReadsRest o chain done rest
+    → arranges_by o.reorder (done ++ rest) (indices (done ++ rest)) [] → length chain < last_block o.edition → ReadsRest o chain done rest
 read_rest o chain done [] bounds few less some ok arranged room =
     let whole : done ++ [] ≡ done = append-nil done in
     let alone : IsFew o.limits done = subst (IsFew o.limits) whole few in
@@ -197,7 +202,7 @@ read_rest o chain done (e ∷ rest) bounds few less some ok arranged room =
 
 -- an envelope alone
 read_alone : (o : Ordering) (chain : List Block) (es : List Envelope) → AreLimits o.limits → length es ≡ 1 → AllByRecursion (IsTakable o.limits) es
-    → arranges_by o.reorder es (indices es) [] → length chain < 65535 → ReadsRest o chain [] es
+    → arranges_by o.reorder es (indices es) [] → length chain < last_block o.edition → ReadsRest o chain [] es
 read_alone o chain [] bounds one ok arranged room = absurd (omega (arith, one))
 read_alone o chain (e ∷ []) bounds one ok arranged room =
     elim (cases_lt o.limits.preferred (envelope_size e)) as (λ _. ReadsRest o chain [] (e ∷ [])) [
@@ -209,8 +214,8 @@ read_alone o chain (e ∷ []) bounds one ok arranged room =
     ]
 read_alone o chain (e ∷ x ∷ es) bounds one ok arranged room = absurd (omega (arith, one))
 
-read_block : (o : Ordering) (chain : List Block) (es : List Envelope) → AreLimits o.limits → IsOwnBatch o.limits o.reorder es → length chain < 65535
-    → ReadsRest o chain [] es
+read_block : (o : Ordering) (chain : List Block) (es : List Envelope) → AreLimits o.limits → IsOwnBatch o.limits o.reorder es
+    → length chain < last_block o.edition → ReadsRest o chain [] es
 read_block o chain es bounds own room =
     elim own.whole as (λ _. ReadsRest o chain [] es) [
       | inl one ↦ read_alone o chain es bounds one own.lines own.arranged room
@@ -224,7 +229,8 @@ own_header : (before : List Block) (b : Block) (blocks : List Block) → AreLink
 own_header before b blocks linked = ap (λ (h : Header). record b { header = h }) (sym linked.0)
 
 pub read_blocks : (o : Ordering) (before blocks : List Block) → AreLimits o.limits
-    → AllByRecursion (λ (b : Block). IsOwnBatch o.limits o.reorder b.envelopes) blocks → AreLinked before blocks → length (before ++ blocks) ≤ 65535
+    → AllByRecursion (λ (b : Block). IsOwnBatch o.limits o.reorder b.envelopes) blocks → AreLinked before blocks
+    → length (before ++ blocks) ≤ last_block o.edition
     → (answers : List (Option (List BatchReport))) × ReadsEach (at o before []) (marks_of blocks) answers (at o (before ++ blocks) [])
 read_blocks o before [] bounds own linked room = ([], (refl, ap (λ (chain : List Block). at o chain []) (append-nil before)))
 read_blocks o before (b ∷ blocks) bounds own linked room =

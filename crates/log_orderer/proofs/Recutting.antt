@@ -10,8 +10,10 @@ use Rattle.hex.proofs.HexLemmas.{decode_of-ok}
 use Rattle.batch_cutter.specs.Division.{IsBatch, IsDivision, Limits, Mark, concatenate, message, messages, timeout}
 use Rattle.batch_cutter.proofs.Divisions.{IsDivision-messages}
 use Rattle.fab_types.specs.BlockSpelling.{envelope_bytes}
+use Rattle.fab_types.specs.Editions.{last_block}
 use Rattle.fab_types.specs.Size.{envelope_size}
 use Rattle.fab_types.specs.declared.block.Block.{Block}
+use Rattle.fab_types.specs.declared.edition.Edition.{Edition}
 use Rattle.fab_types.specs.declared.envelope.Envelope.{Envelope}
 use Rattle.reorder.specs.Edges.{edge_of}
 use Rattle.reorder.specs.Plan.{IsPlanned, all_but}
@@ -160,7 +162,7 @@ record IsCut (o : Ordering) : Type 0 where
   own : AreOwn o.limits o.reorder o.chain
   linked : AreLinked [] o.chain
   waits : AllByRecursion (IsTakable o.limits) o.pending
-  room : length o.chain ≤ 65535
+  room : length o.chain ≤ last_block o.edition
 
 -- an envelope that a line has, and that is not too large
 takable : (limits : Limits) (line : List ℕ) (e : Envelope) → IsMark line (message e) → ¬ IsTooLarge limits (message e) → IsTakable limits e
@@ -191,32 +193,44 @@ one_line old new line (Some reports) reads was =
     (all_front (IsTakable old.limits) (concatenate takes.batches) new.pending lines) in
     let own = each_own old.limits old.reorder old.chain takes.batches reports new.chain takes.added good was.own in
     record {
-      own = subst (λ (l : Limits). AreOwn l new.reorder new.chain) (sym takes.limits) (subst (λ (r : Bool). AreOwn old.limits r new.chain) (sym takes.reorder) own);
+      own =
+          subst (λ (l : Limits). AreOwn l new.reorder new.chain) (sym takes.limits)
+          (subst (λ (r : Bool). AreOwn old.limits r new.chain) (sym takes.reorder) own);
       linked = each_linked (arranges_by old.reorder) old.chain takes.batches reports new.chain takes.added was.linked;
       waits =
           subst (λ (l : Limits). AllByRecursion (IsTakable l) new.pending) (sym takes.limits)
           (all_back (IsTakable old.limits) (concatenate takes.batches) new.pending lines);
-      room = reads.2.2;
+      room = subst (λ (e : Edition). length new.chain ≤ last_block e) (sym takes.edition) reads.2.2;
     }
 
--- the limits, and whether batches are reordered, stay
-stays : (old new : Ordering) (line : List ℕ) (answer : Option (List BatchReport)) → Reads old line answer new
-    → (new.limits ≡ old.limits) × (new.reorder ≡ old.reorder)
-stays old new line None reads = (ap (λ (o : Ordering). o.limits) reads.1, ap (λ (o : Ordering). o.reorder) reads.1)
-stays old new line (Some reports) reads = (reads.2.0.limits, reads.2.0.reorder)
+-- the edition, the limits, and whether batches are reordered
+record Stays (old new : Ordering) : Type 0 where
+  edition : new.edition ≡ old.edition
+  limits : new.limits ≡ old.limits
+  reorder : new.reorder ≡ old.reorder
+
+same_stays : (old new : Ordering) → new ≡ old → Stays old new
+same_stays old new same = record {
+  edition = ap (λ (o : Ordering). o.edition) same;
+  limits = ap (λ (o : Ordering). o.limits) same;
+  reorder = ap (λ (o : Ordering). o.reorder) same;
+}
+
+stays : (old new : Ordering) (line : List ℕ) (answer : Option (List BatchReport)) → Reads old line answer new → Stays old new
+stays old new line None reads = same_stays old new reads.1
+stays old new line (Some reports) reads =
+    let takes = reads.2.0 in
+    record { edition = takes.edition; limits = takes.limits; reorder = takes.reorder }
 
 each_line : (old new : Ordering) (lines : List (List ℕ)) (answers : List (Option (List BatchReport))) → ReadsEach old lines answers new → IsCut old
-    → IsCut new × (new.limits ≡ old.limits) × (new.reorder ≡ old.reorder)
-each_line old new [] answers reads was = (
-  subst IsCut (sym reads.1) was,
-  ap (λ (o : Ordering). o.limits) reads.1,
-  ap (λ (o : Ordering). o.reorder) reads.1,
-)
+    → IsCut new × Stays old new
+each_line old new [] answers reads was = (subst IsCut (sym reads.1) was, same_stays old new reads.1)
 each_line old new (line ∷ lines) answers reads was =
     let here = one_line old reads.2 line reads.0 reads.4 was in
     let same = stays old reads.2 line reads.0 reads.4 in
     let later = each_line reads.2 new lines reads.1 reads.5 here in
-    (later.0, later.1 ∙ same.0, later.2 ∙ same.1)
+    let more = later.1 in
+    (later.0, record { edition = more.edition ∙ same.edition; limits = more.limits ∙ same.limits; reorder = more.reorder ∙ same.reorder })
 
 pub cut_again : (unread made : Ordering) (lines : List (List ℕ)) (answers : List (Option (List BatchReport))) → IsOpening unread → AreLimits unread.limits
     → ReadsEach unread lines answers made → CutsAgain unread made.chain
@@ -228,14 +242,16 @@ cut_again unread made lines answers opens bounds reads =
       room = omega (arith, ap (λ (blocks : List Block). length blocks) opens.1);
     } in
     let all = each_line unread made lines answers reads start in
+    let same = all.1 in
     let own : AreOwn unread.limits unread.reorder made.chain =
-    subst (λ (l : Limits). AreOwn l unread.reorder made.chain) all.1 (subst (λ (r : Bool). AreOwn made.limits r made.chain) all.2 all.0.own) in
-    let again = read_blocks unread [] made.chain bounds own all.0.linked all.0.room in
-    let same : at unread [] [] ≡ unread = sym (same_ordering unread (at unread [] []) refl refl opens.0 opens.1) in
+    subst (λ (l : Limits). AreOwn l unread.reorder made.chain) same.limits (subst (λ (r : Bool). AreOwn made.limits r made.chain) same.reorder all.0.own) in
+    let room = subst (λ (e : Edition). length made.chain ≤ last_block e) same.edition all.0.room in
+    let again = read_blocks unread [] made.chain bounds own all.0.linked room in
+    let begins : at unread [] [] ≡ unread = sym (same_ordering unread (at unread [] []) refl refl refl opens.0 opens.1) in
     record {
       answers = again.0;
       replica = at unread made.chain [];
-      reads = subst (λ (o : Ordering). ReadsEach o (marks_of made.chain) again.0 (at unread made.chain [])) same again.1;
+      reads = subst (λ (o : Ordering). ReadsEach o (marks_of made.chain) again.0 (at unread made.chain [])) begins again.1;
       chain_is = refl;
       idle = refl;
     }

@@ -1,16 +1,17 @@
 -- What an orderer makes of a log: it takes the mark that a line is, or skips the line and is as it was.
 use Rattle.std.specs.Prelude.{◌≡◌, ◌≤◌, ◌⊎◌, ℕ, List, [], ◌∷◌, length, Option, Some, None}
+use Rattle.fab_types.specs.Editions.{last_block}
 use Rattle.fab_types.specs.declared.envelope.Envelope.{Envelope}
 use Rattle.batch_cutter.specs.Division.{Mark}
 use Rattle.orderer.specs.Ordering.{Ordering, Takes, RunsOut, IsTooLarge}
 use Rattle.orderer.specs.declared.report.BatchReport.{BatchReport}
 use Rattle.log_orderer.specs.Lines.{IsMark, IsNoMark}
 
--- a mark is taken, with the reports of the batches that it ends: it is not too large, and there are numbers for its blocks
+-- a mark is taken, with the reports of the batches that it ends: it is not too large, and the rules allow its blocks
 abbrev pub TakesMark : Ordering → Mark Envelope → List BatchReport → Ordering → Type 0
-TakesMark old mark reports new = Takes old mark reports new × ¬ IsTooLarge old.limits mark × (length new.chain ≤ 65535)
+TakesMark old mark reports new = Takes old mark reports new × ¬ IsTooLarge old.limits mark × (length new.chain ≤ last_block old.edition)
 
--- the line is no mark, or its mark is too large, or it needs a block past the last number
+-- the line is no mark, or its mark is too large, or it needs a block past the last one that the rules allow
 abbrev pub IsSkipped : Ordering → List ℕ → Type 0
 IsSkipped old line =
     IsNoMark line ⊎ ((mark : Mark Envelope) × IsMark line mark × (IsTooLarge old.limits mark ⊎ RunsOut old mark))

@@ -2,6 +2,7 @@
 
 ghost use Rattle.std.specs.Prelude.{◌≡◌, ◌≤◌, ◌++◌, [], ℕ, List, Option, Some, codes, length};
 ghost use Rattle.batch_cutter.specs.Division.{Mark};
+ghost use Rattle.fab_types.specs.Editions.{last_block};
 ghost use Rattle.fab_types.specs.declared.envelope.Envelope.{Envelope};
 ghost use Rattle.orderer.specs.Adding.{BeginsWith};
 ghost use Rattle.orderer.specs.Ordering.{AreLimits, IsOpening, Ordering};
@@ -10,7 +11,6 @@ ghost use Rattle.log_orderer.specs.Lines.{IsMark};
 ghost use Rattle.log_orderer.specs.Log.{Reads, ReadsEach};
 ghost use Rattle.log_orderer.specs.Marks.{CutsAgain};
 
-use fab_types::limits::LAST_BLOCK;
 use orderer::ordering_laws;
 use wire::spellings_differ;
 
@@ -33,7 +33,8 @@ pub fn log_laws()
         ReadsEach old front first between → ReadsEach between back later new →
         ReadsEach old (front ++ back) (first ++ later) new }
     ensures idle { (old new : Ordering) (answer : Option (List BatchReport)) →
-        old.pending ≡ [] → length old.chain ≤ LAST_BLOCK → Reads old (codes "tick") answer new →
+        old.pending ≡ [] → length old.chain ≤ last_block old.edition →
+        Reads old (codes "tick") answer new →
         (answer ≡ Some []) × (new ≡ old) }
 {
     ordering_laws();

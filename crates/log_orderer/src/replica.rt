@@ -18,7 +18,7 @@ ghost use Rattle.wire.specs.Ids.{id_of};
 use crate::asked::{Asked, Unread, asked_by};
 use crate::batch::{LogBatch, Room, cut, cut_each};
 use crate::skip::Skip;
-use fab_types::{Envelope, Payload};
+use fab_types::{Edition, Envelope, Payload};
 use orderer::{BlockMaker, OrderCause};
 use seq::Seq;
 use std::alloc::{AllocError, Global};
@@ -45,10 +45,10 @@ pub enum LineReport {
 /// An orderer that reads a log line by line.
 ///
 /// A line is an envelope in hex or the word `tick`. Any other line is skipped, and so is an
-/// envelope above the absolute size and a line that would need a block past number 65,535; all that
-/// waits waits on then. So equal replicas that read the same lines stay equal (`log_laws`). Each
-/// block is handed out once, with the line that made it; what is kept of it is the hash of its
-/// header, 32 bytes.
+/// envelope above the absolute size and a line that would need a block past the last one of the
+/// edition; all that waits waits on then. So equal replicas that read the same lines stay equal
+/// (`log_laws`). Each block is handed out once, with the line that made it; what is kept of it is
+/// the hash of its header, 32 bytes.
 #[derive(Drop)]
 pub struct Replica {
     maker: BlockMaker,
@@ -73,7 +73,7 @@ impl Model for Replica {
 }
 
 impl Replica {
-    /// A replica that has read nothing.
+    /// A replica that has read nothing, under this edition of the ledger's rules.
     ///
     /// A batch has at most `count` envelopes, 1 to 512. Envelopes of at most `preferred` bytes
     /// together share a batch, and one above it is a batch alone; none above `absolute` bytes is
@@ -81,6 +81,7 @@ impl Replica {
     /// batch, else its block has the envelopes as they were cut.
     pub fn new(
         alloc: Global,
+        edition: Edition,
         count: usize,
         preferred: usize,
         absolute: usize,
@@ -90,6 +91,7 @@ impl Replica {
             (record { count = count; preferred = preferred; absolute = absolute }) }
         ensures { result
             ≡ record {
+              edition = edition;
               reorder = reorder;
               limits = record { count = count; preferred = preferred; absolute = absolute };
               pending = [];
@@ -97,7 +99,7 @@ impl Replica {
             } }
     {
         Replica {
-            maker: BlockMaker::new(alloc, count, preferred, absolute, reorder),
+            maker: BlockMaker::new(alloc, edition, count, preferred, absolute, reorder),
             waiting: Vec::new(alloc),
             alloc,
         }

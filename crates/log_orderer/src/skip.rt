@@ -23,7 +23,7 @@ pub enum Skip {
     BytesLeft = 305,
     /// The envelope is above the absolute size.
     TooLarge = 421,
-    /// The line would need a block past number 65,535.
+    /// The line would need a block past the last one that the ledger's rules allow.
     NoNumber = 422,
 }
 

@@ -79,7 +79,7 @@ IsNotRead old text (refused.Stored cause) = ⊥
 
 -- who has read nothing of a log, by a genesis
 abbrev pub fresh : Genesis → Ordering
-fresh g = record { reorder = g.reorder; limits = limits_of g; pending = []; chain = [] }
+fresh g = record { edition = g.rules.value.edition; reorder = g.reorder; limits = limits_of g; pending = []; chain = [] }
 
 module _ {D : Type 0} where
   abbrev pub held_by : LogPeer D → Held

@@ -104,12 +104,13 @@ impl<D: StoreFile> LogPeer<D> {
         ensures untouched { IfErr result (λ u. IsUntouched u.refusal file u.file) }
     {
         let (count, preferred, absolute) = (genesis.count, genesis.preferred, genesis.absolute);
+        let edition = genesis.rules.edition();
         let Ok(rules) = genesis.rules.clone() else {
             let refusal = StoreRefusal::Memory;
             return Err(Unopened { refusal, file });
         };
         let (chain, cut) = StoredChain::open(tags, alloc, rules, file)?;
-        let replica = Replica::new(alloc, count, preferred, absolute, genesis.reorder);
+        let replica = Replica::new(alloc, edition, count, preferred, absolute, genesis.reorder);
         let peer = LogPeer {
             replica,
             chain,

@@ -2,10 +2,12 @@
 use Rattle.std.proofs.Common.{inl, inr, ◌≡◌, ◌≤◌, ◌<◌, ◌⊎◌, ◌+◌, ℕ, zero, suc, Bool, true, List, [], ◌∷◌, ◌++◌, take, drop, length, length-take, Option, Some}
 use Rattle.std.proofs.Common.{None}
 use Rattle.std.proofs.Common.{refl, sym, ap, subst, ◌∙◌, slice_get, arith}
+use Rattle.std.proofs.Math.Nat.{le_trans}
 use Rattle.std.proofs.lemmas.Bool.{cases_lt}
 use Rattle.std.proofs.lemmas.List.{append-nil, append_assoc, map-append, take-append-le, take_all}
 use Rattle.std.proofs.lemmas.Option.{slice_get_within}
 use Rattle.std.specs.List.{AllByRecursion}
+use Rattle.fab_types.proofs.Editions.{last_block_most}
 use Rattle.fab_types.specs.declared.block.Block.{Block}
 use Rattle.fab_types.specs.declared.envelope.Envelope.{Envelope}
 use Rattle.batch_cutter.specs.Division.{Mark}
@@ -101,11 +103,11 @@ log_keeps P kept old new (line ∷ lines) answers was reads =
     log_keeps P kept reads.2 new lines reads.1 (line_keeps P kept old reads.2 line reads.0 was reads.4) reads.5
 
 abbrev IsLinked : Ordering → Type 0
-IsLinked o = AreLinked [] o.chain × (length o.chain ≤ 65535)
+IsLinked o = AreLinked [] o.chain × (length o.chain ≤ 4000000000)
 
 linked_kept : IsKept IsLinked
 linked_kept old new mark reports was takes =
-    (each_linked (arranges_by old.reorder) old.chain takes.0.batches reports new.chain takes.0.added was.0, takes.2)
+    (each_linked (arranges_by old.reorder) old.chain takes.0.batches reports new.chain takes.0.added was.0, le_trans takes.2 (last_block_most old.edition))
 
 linked_log : (s : Setting) (log : Ordering) (lines : List (List ℕ)) (answers : List (Option (List BatchReport))) → ReadsEach (unread s) lines answers log →
     IsLinked log
@@ -204,7 +206,7 @@ onto_older s before (b ∷ blocks) are old =
     let next : Committed = record { block = b; flags = judge (rule ts) ts (length before + 1) 0 b.envelopes } in
     let endorsed : Envelope → Bool = λ e. is_endorsed s.listed (state ts) e in
     onto_older s (before ++ next ∷ []) blocks are.1
-    (older_more before next old (block_legal id_of endorsed ts (length before + 1) b.envelopes are.0))
+    (older_more before next old (block_legal s.listed.edition id_of endorsed ts (length before + 1) b.envelopes are.0))
 
 none_older : ConflictsAreOlder []
 none_older k c there = none_among c (k, there)

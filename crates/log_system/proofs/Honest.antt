@@ -100,10 +100,10 @@ honest_machine behind s lines told log machines m alone carries reads are there 
       handed = all_handed exec (right_of s.listed) replies chain given [] chain;
       serial = λ genuine.
           let out = all_handed exec (right_of s.listed) replies chain given [] chain genuine in
-          let now = judged_current id_of endorsed chain flags in
+          let now = judged_current s.listed.edition id_of endorsed chain flags in
           let both = reruns_and_map exec chain alone now out in
           record { agree = both.0; same = reruns_same exec chain alone now out; map = both.1 };
       genuine = λ unforged.
-          let all = judged_endorsed id_of endorsed [] chain flags in
+          let all = judged_endorsed s.listed.edition id_of endorsed [] chain flags in
           all_genuine s.listed replies [] chain carries all unforged;
     }

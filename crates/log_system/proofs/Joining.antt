@@ -97,8 +97,8 @@ abbrev pub OpeningLaw : Type 0
 OpeningLaw = (now : Ordering) → 0 < now.limits.count → IsOpening now → IsOrdered [] now
 
 one_run : (s : Setting) (seats capacity : ℕ) (orgs : List Bytes) (events : List Event) (replies : List Reply) (world : World) →
-    AreSteps (rules_by s capacity) (opening orgs seats s.limits s.reorder) events replies world → IsOrdered (marks_of [] events replies) world.orderer →
-    IsRun (rules_by s capacity) orgs seats s.limits s.reorder events replies world false
+    AreSteps (rules_by s capacity) (opening s.listed.edition orgs seats s.limits s.reorder) events replies world →
+    IsOrdered (marks_of [] events replies) world.orderer → IsRun (rules_by s capacity) orgs seats s.limits s.reorder events replies world false
 one_run s seats capacity orgs events replies world steps ordered = record {
   done = events;
   rest = [];

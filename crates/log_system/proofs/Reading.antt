@@ -3,6 +3,7 @@ use Rattle.std.proofs.Common.{inl, inr, ◌≡◌, ℕ, ◌<◌, ◌≤◌, Bool
 use Rattle.std.proofs.lemmas.Bool.{cases_lt, lt-ltb}
 use Rattle.std.proofs.lemmas.List.{append-nil, append_assoc}
 use Rattle.std.specs.Option.{option_to_list}
+use Rattle.fab_types.specs.Editions.{last_block}
 use Rattle.fab_types.specs.Size.{envelope_size}
 use Rattle.fab_types.specs.declared.block.Block.{Block}
 use Rattle.fab_types.specs.declared.envelope.Envelope.{Envelope}
@@ -78,7 +79,7 @@ one_report old new reports waits takes =
     (subst (λ (bs : List (List Envelope)). AddsEach (arranges_by old.reorder) old.chain bs reports new.chain) (sym one.1) takes.added)
 
 timed : (r : Rules) (peers : List PeerState) (old new : Ordering) (report : Option BatchReport) → Takes old timeout (option_to_list report) new →
-    length new.chain ≤ 65535 → IsStep r (resting peers old) Tick (reply_of_tick report) (resting peers new)
+    length new.chain ≤ last_block old.edition → IsStep r (resting peers old) Tick (reply_of_tick report) (resting peers new)
 timed r peers old new None takes room = (new, takes, room, refl)
 timed r peers old new (Some report) takes room = (new, takes, room, refl)
 

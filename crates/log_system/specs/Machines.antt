@@ -39,7 +39,7 @@ endorsing_at s org = endorsing_with s.book s org
 
 -- who has read nothing of the log
 abbrev pub unread : Setting → Ordering
-unread s = fresh_orderer s.limits s.reorder
+unread s = fresh_orderer s.listed.edition s.limits s.reorder
 
 -- who has read some of the lines, from the first on, has this block at this place of the chain that they make
 pub record IsRead (s : Setting) (lines : List (List ℕ)) (place : ℕ) (block : Block) : Type 0 where

@@ -90,7 +90,8 @@ replies_of_machines machines = flat_map (λ m. replies_of_acts 0 m.acts) machine
 
 -- the system's rules by the setting, with a queue of this capacity
 abbrev pub rules_by : Setting → ℕ → Rules
-rules_by s capacity = record { exec = exec_of s.book; rule = table_of s.listed; seal = s.seal; capacity = capacity }
+rules_by s capacity =
+    record { edition = s.listed.edition; exec = exec_of s.book; rule = table_of s.listed; seal = s.seal; capacity = capacity }
 
 abbrev pub orgs_of : List Machine → List Bytes
 orgs_of machines = map (λ m. m.org) machines

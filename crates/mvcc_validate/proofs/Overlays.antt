@@ -1,16 +1,20 @@
 -- What a state has after the writes of one more transaction.
 use Rattle.std.proofs.Common.{◌≡◌, Bool, true, false, cond, List, [], ◌∷◌, ◌++◌, Option, Some, None, refl, sym, ap, ◌∙◌, option_map}
+use Rattle.std.proofs.Common.{is_some, length, ◌≤◌}
+use Rattle.std.proofs.Math.Seq.{drop-length}
+use Rattle.std.proofs.lemmas.List.{drop-append-le}
 use Rattle.std.specs.Option.{option_or}
 use Rattle.std.specs.Ordering.{eq_by_cmp}
-use Rattle.std.specs.FinMap.{get, insert, get-insert}
+use Rattle.std.specs.FinMap.{get, get-from_entries, insert, get-insert}
 use Rattle.fab_types.specs.declared.items.WriteItem.{WriteItem}
 use Rattle.ledger_model.specs.Chain.{Bytes, Version, Placed, is_valid}
 use Rattle.ledger_model.specs.Views.{key_cmp, Versioned}
 use Rattle.ledger_model.specs.State.{state, state_at, last_write, write_to, value_and_version}
-use Rattle.ledger_model.specs.Flags.{version_at}
+use Rattle.ledger_model.specs.Flags.{since, version_at}
 use Rattle.ledger_model.proofs.Keys.{keys_total}
 use Rattle.ledger_model.proofs.State.{get-state, last_write-append}
-use Rattle.mvcc_validate.specs.Overlay.{Overlay, written_of, put_written, over, IsOver}
+use Rattle.mvcc_validate.specs.Merge.{is_written}
+use Rattle.mvcc_validate.specs.Overlay.{AreWritten, Overlay, written_of, put_written, over, IsOver}
 
 version_under : {X : Type 0} (o : Option (X × Version)) (f : X → Bytes) →
     option_map (λ e. e.1) (option_map {U = Bytes × Version} (λ e. (f e.0, e.1)) o) ≡ option_map (λ e. e.1) o
@@ -74,3 +78,44 @@ over_invalid written base ts t h invalid = record {
       (value_and_version (option_or (cond b (option_map (λ w. (t.version, w)) (write_to t.envelope.payload.writes q)) None) (last_write ts q)))) invalid
       ∙ sym (version-state ts q) ∙ h.version q;
 }
+
+-- ---- which keys were written since the chain before the block
+
+-- the transactions since then, one more
+since_push : (before earlier : List Placed) (t : Placed) → length before ≤ length earlier → since before (earlier ++ t ∷ []) ≡ since before earlier ++ t ∷ []
+since_push before earlier t h = drop-append-le (length before) earlier (t ∷ []) h
+
+is_written_get : (written : List (Bytes × Option Version)) (q : Bytes) → is_written written q ≡ is_some (get (written_of written) q)
+is_written_get written q = ap is_some (sym (get-from_entries keys_total written q))
+
+pub written_none : (written : List (Bytes × Option Version)) (before : List Placed) → written ≡ [] → AreWritten written (since before before)
+written_none written before e q =
+    ap (λ es. is_written es q) e ∙ ap (λ ts. is_some (last_write ts q)) (sym (drop-length before))
+
+some_left : (v : Version) (o : Option (Option Bytes)) (old : Option (Version × Option Bytes)) (w : Option (Option Version)) → is_some w ≡ is_some old →
+    is_some (option_or (left v o) w) ≡ is_some (option_or (option_map {U = Version × Option Bytes} (λ x. (v, x)) o) old)
+some_left v None old w h = h
+some_left v (Some x) old w h = refl
+
+pub written_valid : (written more : List (Bytes × Option Version)) (before earlier : List Placed) (t : Placed) → length before ≤ length earlier →
+    AreWritten written (since before earlier) → is_valid t.flag ≡ true →
+    written_of more ≡ put_written (written_of written) t.envelope.payload.writes t.version → AreWritten more (since before (earlier ++ t ∷ []))
+written_valid written more before earlier t long h valid made q =
+    let ts = since before earlier in
+    let o = write_to t.envelope.payload.writes q in
+    is_written_get more q
+    ∙ ap is_some (ap (λ m. get m q) made ∙ get-put_written (written_of written) t.envelope.payload.writes t.version q)
+    ∙ some_left t.version o (last_write ts q) (get (written_of written) q) (sym (is_written_get written q) ∙ h q)
+    ∙ ap (λ b. is_some (option_or (cond b (option_map {U = Version × Option Bytes} (λ x. (t.version, x)) o) None) (last_write ts q))) (sym valid)
+    ∙ ap is_some (sym (last_write-append ts (t ∷ []) q))
+    ∙ ap (λ us. is_some (last_write us q)) (sym (since_push before earlier t long))
+
+pub written_invalid : (written : List (Bytes × Option Version)) (before earlier : List Placed) (t : Placed) → length before ≤ length earlier →
+    AreWritten written (since before earlier) → is_valid t.flag ≡ false → AreWritten written (since before (earlier ++ t ∷ []))
+written_invalid written before earlier t long h invalid q =
+    let ts = since before earlier in
+    let o = write_to t.envelope.payload.writes q in
+    h q
+    ∙ ap (λ b. is_some (option_or (cond b (option_map {U = Version × Option Bytes} (λ x. (t.version, x)) o) None) (last_write ts q))) (sym invalid)
+    ∙ ap is_some (sym (last_write-append ts (t ∷ []) q))
+    ∙ ap (λ us. is_some (last_write us q)) (sym (since_push before earlier t long))

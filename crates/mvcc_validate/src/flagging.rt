@@ -1,18 +1,18 @@
 //! Flags.
 
-ghost use Rattle.std.specs.Prelude.{◌≡◌, ◌++◌, ◌∷◌, [], IfOk, OnOk, List, length};
+ghost use Rattle.std.specs.Prelude.{◌≡◌, ◌++◌, ◌∷◌, [], ◌&&◌, IfOk, OnOk, List, length};
 ghost use Rattle.ledger_model.specs.Chain.{Placed, history, is_valid};
 ghost use Rattle.ledger_model.specs.State.{state};
-ghost use Rattle.ledger_model.specs.Flags.{stands_in, flag_at, flags_told};
+ghost use Rattle.ledger_model.specs.Flags.{stands_in, since, reads_settled, reads_current, ranges_settled, ranges_current, flag_at, flags_told};
 ghost use Rattle.wire.specs.Ids.{id_of};
 ghost use Rattle.world_state.specs.Ids.{ids_of};
 ghost use Rattle.world_state.specs.Judging.{IsOf};
-ghost use Rattle.mvcc_validate.specs.Overlay.{AreNewIds, IsOver};
+ghost use Rattle.mvcc_validate.specs.Overlay.{AreNewIds, AreWritten, IsOver};
 
 use crate::overlay::{Overlay, put_writes};
-use crate::phantoms::are_ranges_current;
-use crate::reads::are_reads_current;
-use fab_types::{Block, Flag, Payload, Version};
+use crate::phantoms::{are_ranges_current, are_ranges_settled};
+use crate::reads::{are_reads_current, are_reads_settled};
+use fab_types::{Block, Edition, Flag, Payload, Version};
 use std::alloc::{AllocError, Global};
 use std::collections::{BTreeMap, BTreeSet};
 use world_state::{Judged, Snapshot, TxIds, add_id, tx_ids};
@@ -53,6 +53,7 @@ struct Transaction<'a> {
 /// The flag of the transaction that comes next.
 fn flag_of(
     alloc: Global,
+    edition: Edition,
     snapshot: &Snapshot,
     written: &Overlay,
     next: &Transaction<'_>,
@@ -61,7 +62,10 @@ fn flag_of(
         (λ flag. (earlier : List Placed) →
         next.now.stood ≡ stands_in id_of earlier (id_of next.now.payload.now.proposal) →
         IsOver written.now.entries (state (history snapshot.now)) (state earlier) →
-        flag ≡ flag_at id_of earlier next.now.endorsed next.now.payload.now) }
+        AreWritten written.now.entries (since (history snapshot.now) earlier) →
+        flag
+        ≡ flag_at edition id_of (history snapshot.now) earlier next.now.endorsed
+        next.now.payload.now) }
 {
     if next.stood {
         return Ok(Flag::DuplicateTxid);
@@ -69,14 +73,54 @@ fn flag_of(
     if !next.endorsed {
         return Ok(Flag::EndorsementPolicyFailure);
     }
-    let payload = next.payload;
-    if !are_reads_current(snapshot, written, payload.reads().as_slice()) {
+    if !reads_hold(edition, snapshot, written, next.payload) {
         return Ok(Flag::MvccReadConflict);
     }
-    if !are_ranges_current(alloc, snapshot, written, payload.ranges().as_slice())? {
+    if !ranges_hold(alloc, edition, snapshot, written, next.payload)? {
         return Ok(Flag::PhantomReadConflict);
     }
     Ok(Flag::Valid)
+}
+
+/// Whether the reads of a payload were settled before the block, and are current.
+fn reads_hold(
+    edition: Edition,
+    snapshot: &Snapshot,
+    written: &Overlay,
+    payload: &Payload,
+) -> bool
+    ensures { (earlier : List Placed) →
+        IsOver written.now.entries (state (history snapshot.now)) (state earlier) →
+        AreWritten written.now.entries (since (history snapshot.now) earlier) →
+        result
+        ≡ (reads_settled edition (since (history snapshot.now) earlier) payload.now.reads
+        && reads_current (state earlier) payload.now.reads) }
+{
+    let reads = payload.reads().as_slice();
+    are_reads_settled(edition, written, reads) && are_reads_current(snapshot, written, reads)
+}
+
+/// Whether the ranges of a payload were settled before the block, and are current.
+fn ranges_hold(
+    alloc: Global,
+    edition: Edition,
+    snapshot: &Snapshot,
+    written: &Overlay,
+    payload: &Payload,
+) -> Result<bool, AllocError>
+    ensures { IfOk result
+        (λ b. (earlier : List Placed) →
+        IsOver written.now.entries (state (history snapshot.now)) (state earlier) →
+        b
+        ≡ (ranges_settled edition (history snapshot.now) payload.now.ranges
+        && ranges_current (state earlier) payload.now.ranges)) }
+{
+    let ranges = payload.ranges().as_slice();
+    let are_settled = are_ranges_settled(alloc, edition, snapshot, ranges)?;
+    if !are_settled {
+        return Ok(false);
+    }
+    are_ranges_current(alloc, snapshot, written, ranges)
 }
 
 /// What a block that is put on a snapshot is judged to be: a flag for each transaction, and the ids.
@@ -87,14 +131,15 @@ fn flag_of(
 /// - `DuplicateTxid`: its id stands earlier in the chain or in this block, whatever flag is there.
 /// - `EndorsementPolicyFailure`: it is not endorsed.
 /// - `MvccReadConflict`: a key that it read has another version, or is absent, or is not absent any
-///   more.
+///   more; or, under rules 2, a VALID transaction of this block wrote it, whatever version was seen.
 /// - `PhantomReadConflict`: a range that it read has other first keys, up to its limit, or other
-///   versions.
+///   versions; or, under rules 2, had such before this block.
 /// - `Valid`.
 ///
 /// The error is of memory.
 pub fn flag_block(
     alloc: Global,
+    edition: Edition,
     snapshot: &Snapshot,
     block: &Block,
     endorsed: &[bool],
@@ -102,18 +147,19 @@ pub fn flag_block(
     requires one_each { length endorsed.now ≡ length block.now.envelopes }
     ensures flags { IfOk result
         (λ judged. judged.flags.items
-        ≡ flags_told id_of (history snapshot.now) block.now.header.number 0 block.now.envelopes
-        endorsed.now) }
+        ≡ flags_told edition id_of (history snapshot.now) (history snapshot.now)
+        block.now.header.number 0 block.now.envelopes endorsed.now) }
     ensures of { IfOk result (λ judged. IsOf block.now judged) }
 {
     let ids = tx_ids(alloc, block)?;
-    let flags = flags_with_ids(alloc, snapshot, block, endorsed, &ids)?;
+    let flags = flags_with_ids(alloc, edition, snapshot, block, endorsed, &ids)?;
     Ok(Judged { flags, ids })
 }
 
 /// The flags of `flag_block`, where nothing is put on the snapshot. The error is of memory.
 pub fn flags(
     alloc: Global,
+    edition: Edition,
     snapshot: &Snapshot,
     block: &Block,
     endorsed: &[bool],
@@ -121,16 +167,17 @@ pub fn flags(
     requires one_each { length endorsed.now ≡ length block.now.envelopes }
     ensures { IfOk result
         (λ v. v.items
-        ≡ flags_told id_of (history snapshot.now) block.now.header.number 0 block.now.envelopes
-        endorsed.now) }
+        ≡ flags_told edition id_of (history snapshot.now) (history snapshot.now)
+        block.now.header.number 0 block.now.envelopes endorsed.now) }
 {
-    let Judged { flags, ids: _ } = flag_block(alloc, snapshot, block, endorsed)?;
+    let Judged { flags, ids: _ } = flag_block(alloc, edition, snapshot, block, endorsed)?;
     Ok(flags)
 }
 
 /// The flags of a block's transactions, whose ids are at hand.
 fn flags_with_ids(
     alloc: Global,
+    edition: Edition,
     snapshot: &Snapshot,
     block: &Block,
     endorsed: &[bool],
@@ -140,8 +187,8 @@ fn flags_with_ids(
     requires ids { ids.now ≡ ids_of block.now.envelopes }
     ensures { IfOk result
         (λ v. v.items
-        ≡ flags_told id_of (history snapshot.now) block.now.header.number 0 block.now.envelopes
-        endorsed.now) }
+        ≡ flags_told edition id_of (history snapshot.now) (history snapshot.now)
+        block.now.header.number 0 block.now.envelopes endorsed.now) }
 {
     let number = block.header.number.get();
     let envelopes = block.envelopes.as_slice();
@@ -156,7 +203,7 @@ fn flags_with_ids(
             stood,
             endorsed: endorsed[place],
         };
-        let flag = flag_of(alloc, snapshot, &written, &next)?;
+        let flag = flag_of(alloc, edition, snapshot, &written, &next)?;
         if is_valid(flag) {
             let version = Version::new(number, place as u32).unwrap();
             put_writes(&mut written, payload.writes().as_slice(), version)?;

@@ -21,10 +21,10 @@ something chain [] some = absurd omega (arith, some)
 something chain (e ∷ es) some = (refl, refl)
 
 -- a batch that needs a block after the last number
-pub needs_one : (arranges : List Envelope → List ℕ → List (ℕ × AbortCause) → Type 0) (old : List Block) (batch : List Envelope) (order : List ℕ)
-    (aborted : List (ℕ × AbortCause))
-    → arranges batch order aborted → 1 ≤ length (envelopes_at batch order) → length old ≡ 65535 → IsBatchRefused arranges NoNumber old batch
-needs_one arranges old batch order aborted arranged some full =
+pub needs_one : (last : ℕ) (arranges : List Envelope → List ℕ → List (ℕ × AbortCause) → Type 0) (old : List Block) (batch : List Envelope)
+    (order : List ℕ) (aborted : List (ℕ × AbortCause))
+    → arranges batch order aborted → 1 ≤ length (envelopes_at batch order) → length old ≡ last → IsBatchRefused last arranges NoNumber old batch
+needs_one last arranges old batch order aborted arranged some full =
     let es = envelopes_at batch order in
     let report : BatchReport = record { block = number_of old es; count = length es; aborted = aborted } in
     let block = something old es some in (

@@ -1,6 +1,8 @@
 -- What an orderer has made of the marks that it was given, and one step of it.
 use Rattle.std.specs.Prelude.{◌≡◌, Bool, ◌<◌, ◌≤◌, List, [], ◌∷◌, ◌++◌, length, map}
+use Rattle.fab_types.specs.Editions.{last_block}
 use Rattle.fab_types.specs.Size.{envelope_size}
+use Rattle.fab_types.specs.declared.edition.Edition.{Edition}
 use Rattle.fab_types.specs.declared.envelope.Envelope.{Envelope}
 use Rattle.fab_types.specs.declared.block.Block.{Block}
 use Rattle.batch_cutter.specs.Division.{Limits, Mark, message, timeout, IsDivision}
@@ -10,8 +12,9 @@ use Rattle.orderer.specs.declared.report.BatchReport.{BatchReport}
 use Rattle.orderer.specs.declared.report.OrderCause.{OrderCause}
 use Rattle.orderer.specs.declared.report.OrderCause.TheVariants.{TooLarge, NoNumber, Memory}
 
--- whether batches are put in a legal order, the limits, the envelopes that wait, and the chain
+-- the edition of the ledger's rules, whether batches are put in a legal order, the limits, the envelopes that wait, and the chain
 pub record Ordering : Type 0 where
+  pub edition : Edition
   pub reorder : Bool
   pub limits : Limits
   pub pending : List Envelope
@@ -38,13 +41,14 @@ pub record Takes (old : Ordering) (mark : Mark Envelope) (reports : List BatchRe
   pub added : AddsEach (arranges_by old.reorder) old.chain batches reports new.chain
   pub limits : new.limits ≡ old.limits
   pub reorder : new.reorder ≡ old.reorder
+  pub edition : new.edition ≡ old.edition
 
 -- a message above the absolute size is too large; a timeout never is
 abbrev pub IsTooLarge : Limits → Mark Envelope → Type 0
 IsTooLarge limits (message e) = limits.absolute < envelope_size e
 IsTooLarge limits timeout = ⊥
 
--- The mark is not too large, and one of the new batches needs a block past the last number
+-- the mark is not too large, and one of the new batches needs a block past the last one that the rules allow
 pub record RunsOut (old : Ordering) (mark : Mark Envelope) : Type 0 where
   pub fits : ¬ IsTooLarge old.limits mark
   pub first : List (List Envelope)
@@ -54,7 +58,7 @@ pub record RunsOut (old : Ordering) (mark : Mark Envelope) : Type 0 where
   pub reports : List BatchReport
   pub chain : List Block
   pub added : AddsEach (arranges_by old.reorder) old.chain first reports chain
-  pub past : 65535 < length chain
+  pub past : last_block old.edition < length chain
 
 -- where each refusal comes. The size is tested before any memory is taken
 abbrev pub IsRefused : OrderCause → Ordering → Mark Envelope → Type 0

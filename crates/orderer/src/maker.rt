@@ -7,6 +7,7 @@ ghost use Rattle.std.specs.Vec.{vec_capacity};
 ghost use Rattle.batch_cutter.specs.Division.{message, timeout};
 ghost use Rattle.batch_cutter.specs.Offers.{batches};
 ghost use Rattle.fab_types.specs.Data.{IsBlockData};
+ghost use Rattle.fab_types.specs.Editions.{last_block};
 ghost use Rattle.fab_types.specs.Size.{envelope_size};
 ghost use Rattle.fab_types.specs.declared.block.Block.{Block};
 ghost use Rattle.orderer.specs.Adding.{IsBatchRefused, IsCutRefused};
@@ -20,8 +21,8 @@ use crate::chain::Chain;
 use crate::making::{Made, Tip, make_block};
 use crate::report::{OrderCause, OrderRefusal};
 use batch_cutter::{Cut, Cutter};
-use fab_types::Envelope;
 use fab_types::limits::LAST_BLOCK;
+use fab_types::{Edition, Envelope};
 use std::alloc::Global;
 use std::marker::Model;
 use std::slice;
@@ -33,6 +34,7 @@ use wire::header_hash;
 /// its header, 32 bytes. A call that is refused changes nothing.
 #[derive(Drop)]
 pub struct BlockMaker {
+    edition: Edition,
     reorder: bool,
     cutter: Cutter<Envelope>,
     /// The hashes of the headers, from block 1 on.
@@ -43,6 +45,7 @@ pub struct BlockMaker {
 
 impl Model for BlockMaker {
     ghost use Rattle.std.specs.Prelude.{◌≡◌, ◌≤◌, length};
+    ghost use Rattle.fab_types.specs.Editions.{last_block};
     ghost use Rattle.orderer.specs.Ordering.{Ordering, AreLimits};
     ghost use Rattle.orderer.specs.Headers.{hashes_of};
 
@@ -50,25 +53,28 @@ impl Model for BlockMaker {
 
     ghost view = { λ o.
         record {
+          edition = o.edition;
           reorder = o.reorder;
           limits = o.cutter.limits;
           pending = o.cutter.pending;
           chain = o.chain.blocks;
         } };
 
-    ghost invariant = { λ o. AreLimits o.cutter.limits × (length o.chain.blocks ≤ 65535) ×
-        (o.hashes.items ≡ hashes_of o.chain.blocks) };
+    ghost invariant = { λ o. AreLimits o.cutter.limits ×
+        (length o.chain.blocks ≤ last_block o.edition) × (o.hashes.items ≡ hashes_of o.chain.blocks) };
 }
 
 impl BlockMaker {
     /// One that has made no block, where nothing waits.
     ///
+    /// The edition says how many blocks there may be.
     /// A batch has at most `count` envelopes, 1 to 512. Envelopes of at most `preferred` bytes
     /// together share a batch, and one above it is a batch alone; none above `absolute` bytes is
     /// taken. Both are at most 524,288. With `reorder` early abort and reordering act on each
     /// batch, else its block has the envelopes as they were cut.
     pub fn new(
         alloc: Global,
+        edition: Edition,
         count: usize,
         preferred: usize,
         absolute: usize,
@@ -78,6 +84,7 @@ impl BlockMaker {
             (record { count = count; preferred = preferred; absolute = absolute }) }
         ensures { result
             ≡ record {
+              edition = edition;
               reorder = reorder;
               limits = record { count = count; preferred = preferred; absolute = absolute };
               pending = [];
@@ -85,6 +92,7 @@ impl BlockMaker {
             } }
     {
         BlockMaker {
+            edition,
             reorder,
             cutter: Cutter::new(alloc, count, preferred, absolute),
             hashes: Vec::new(alloc),
@@ -97,9 +105,9 @@ impl BlockMaker {
     /// their order.
     ///
     /// A refusal hands the envelope back. Its cause is 421 where the envelope is above the absolute
-    /// size, whatever memory there is. Else it is 422 where a block past number 65,535 would be
-    /// needed, or 9 where a growth of memory was refused, which may come before it is known whether a
-    /// number is left.
+    /// size, whatever memory there is. Else it is 422 where a block past the last one of the edition
+    /// would be needed, or 9 where a growth of memory was refused, which may come before it is known
+    /// whether a number is left.
     pub fn accept(&mut self, given: Envelope) -> Result<Vec<Made>, OrderRefusal>
         ensures taken { IfOk result
             (λ made. Takes self.old (message given) (reports_made made.items) self.new) }
@@ -108,7 +116,8 @@ impl BlockMaker {
         ensures own { IfOk result (λ made. AreOwn made.items) }
         ensures two { IfOk result (λ made. length made.items ≤ 2) }
         ensures size { OnOk result (envelope_size given ≤ self.old.limits.absolute) }
-        ensures numbers { OnOk result (length self.new.chain ≤ LAST_BLOCK) }
+        ensures numbers { OnOk result
+            (length self.new.chain ≤ last_block self.old.edition) }
         ensures refused { IfErr result
             (λ refusal. IsRefused refusal.cause self.old (message given)) }
         ensures handed_back { IfErr result (λ refusal. refusal.envelope ≡ Some given) }
@@ -125,6 +134,7 @@ impl BlockMaker {
         };
         match add_cut(
             self.alloc,
+            self.edition,
             self.reorder,
             &mut self.hashes,
             &mut self.chain,
@@ -160,16 +170,17 @@ impl BlockMaker {
     /// Cuts the envelopes that wait, as a timeout does, and hands out what their batch becomes.
     /// None where no envelope waits.
     ///
-    /// A refusal has no envelope. Its cause is 422 where a block past number 65,535 would be
-    /// needed, or 9 where a growth of memory was refused, which may come before it is known whether
-    /// a number is left.
+    /// A refusal has no envelope. Its cause is 422 where a block past the last one of the edition
+    /// would be needed, or 9 where a growth of memory was refused, which may come before it is known
+    /// whether a number is left.
     pub fn tick(&mut self) -> Result<Option<Made>, OrderRefusal>
         ensures taken { IfOk result (λ made.
             Takes self.old timeout (reports_made (option_to_list made)) self.new) }
         ensures blocks { IfOk result (λ made.
             self.new.chain ≡ self.old.chain ++ blocks_made (option_to_list made)) }
         ensures own { IfOk result (λ made. AreOwn (option_to_list made)) }
-        ensures numbers { OnOk result (length self.new.chain ≤ LAST_BLOCK) }
+        ensures numbers { OnOk result
+            (length self.new.chain ≤ last_block self.old.edition) }
         ensures refused { IfErr result (λ refusal. IsRefused refusal.cause self.old timeout) }
         ensures handed_back { IfErr result (λ refusal. refusal.envelope ≡ None) }
         ensures unchanged { OnErr result (self.new ≡ self.old) }
@@ -179,6 +190,7 @@ impl BlockMaker {
         };
         match add_batch(
             self.alloc,
+            self.edition,
             self.reorder,
             &mut self.hashes,
             &mut self.chain,
@@ -249,11 +261,12 @@ fn tip_after(tip: Tip, made: &Made) -> Tip
 /// Makes what the batches of a cut become behind a tip, one after another.
 fn make_each(
     alloc: Global,
+    edition: Edition,
     reorder: bool,
     tip: Tip,
     cut: &Cut<Envelope>,
 ) -> Result<Vec<Made>, OrderCause>
-    requires height { tip.height ≤ LAST_BLOCK }
+    requires height { tip.height ≤ last_block edition }
     requires batches { AllByRecursion IsBlockData (batches cut.now) }
     ensures made { IfOk result (λ made. (chain : List Block) → tip ≡ tip_of chain →
         AddsEach (arranges_by reorder) chain (batches cut.now) (reports_made made.items)
@@ -261,24 +274,25 @@ fn make_each(
     ensures own { IfOk result (λ made. AreOwn made.items) }
     ensures two { IfOk result (λ made. length made.items ≤ 2) }
     ensures number { IfOk result
-        (λ made. tip.height + length (blocks_made made.items) ≤ LAST_BLOCK) }
+        (λ made. tip.height + length (blocks_made made.items) ≤ last_block edition) }
     ensures refused { IfErr result (λ cause. (chain : List Block) → tip ≡ tip_of chain →
-        IsCutRefused (arranges_by reorder) cause chain (batches cut.now)) }
+        IsCutRefused (last_block edition) (arranges_by reorder) cause chain (batches cut.now)) }
 {
     let mut all = Vec::new(alloc);
-    put_each(alloc, reorder, tip, cut, &mut all)?;
+    put_each(alloc, edition, reorder, tip, cut, &mut all)?;
     Ok(all)
 }
 
 /// Puts what the batches of a cut become behind a tip, one after another, in an empty list.
 fn put_each(
     alloc: Global,
+    edition: Edition,
     reorder: bool,
     tip: Tip,
     cut: &Cut<Envelope>,
     all: &mut Vec<Made>,
 ) -> Result<(), OrderCause>
-    requires height { tip.height ≤ LAST_BLOCK }
+    requires height { tip.height ≤ last_block edition }
     requires batches { AllByRecursion IsBlockData (batches cut.now) }
     requires empty { all.old.items ≡ [] }
     ensures made { OnOk result ((chain : List Block) → tip ≡ tip_of chain →
@@ -287,21 +301,21 @@ fn put_each(
     ensures own { OnOk result (AreOwn all.new.items) }
     ensures two { OnOk result (length all.new.items ≤ 2) }
     ensures number { OnOk result
-        (tip.height + length (blocks_made all.new.items) ≤ LAST_BLOCK) }
+        (tip.height + length (blocks_made all.new.items) ≤ last_block edition) }
     ensures refused { IfErr result (λ cause. (chain : List Block) → tip ≡ tip_of chain →
-        IsCutRefused (arranges_by reorder) cause chain (batches cut.now)) }
+        IsCutRefused (last_block edition) (arranges_by reorder) cause chain (batches cut.now)) }
 {
     match cut {
         Cut::Nothing => Ok(()),
         Cut::One(batch) => {
-            all.push(make_block(alloc, reorder, tip, batch)?)?;
+            all.push(make_block(alloc, edition, reorder, tip, batch)?)?;
             Ok(())
         }
         Cut::Two(first, second) => {
-            let made = make_block(alloc, reorder, tip, first)?;
+            let made = make_block(alloc, edition, reorder, tip, first)?;
             let next = tip_after(tip, &made);
             all.push(made)?;
-            all.push(make_block(alloc, reorder, next, second)?)?;
+            all.push(make_block(alloc, edition, reorder, next, second)?)?;
             Ok(())
         }
     }
@@ -324,12 +338,13 @@ fn keep(hashes: &mut Vec<[u8; 32]>, chain: &mut Chain, made: &[Made])
 /// Makes what the batches of a cut become, and keeps the hashes of the headers.
 fn add_cut(
     alloc: Global,
+    edition: Edition,
     reorder: bool,
     hashes: &mut Vec<[u8; 32]>,
     chain: &mut Chain,
     cut: &Cut<Envelope>,
 ) -> Result<Vec<Made>, OrderCause>
-    requires height { length chain.old.blocks ≤ LAST_BLOCK }
+    requires height { length chain.old.blocks ≤ last_block edition }
     requires hashes { hashes.old.items ≡ hashes_of chain.old.blocks }
     requires batches { AllByRecursion IsBlockData (batches cut.now) }
     ensures added { IfOk result
@@ -340,13 +355,14 @@ fn add_cut(
     ensures own { IfOk result (λ made. AreOwn made.items) }
     ensures two { IfOk result (λ made. length made.items ≤ 2) }
     ensures hashes { hashes.new.items ≡ hashes_of chain.new.blocks }
-    ensures number { OnOk result (length chain.new.blocks ≤ LAST_BLOCK) }
+    ensures number { OnOk result (length chain.new.blocks ≤ last_block edition) }
     ensures unchanged { OnErr result (chain.new ≡ chain.old) }
     ensures refused { IfErr result
-        (λ cause. IsCutRefused (arranges_by reorder) cause chain.old.blocks (batches cut.now)) }
+        (λ cause. IsCutRefused (last_block edition) (arranges_by reorder) cause chain.old.blocks
+        (batches cut.now)) }
 {
     hashes.reserve(2)?;
-    let made = make_each(alloc, reorder, tip_of(hashes), cut)?;
+    let made = make_each(alloc, edition, reorder, tip_of(hashes), cut)?;
     keep(hashes, chain, &made);
     Ok(made)
 }
@@ -354,12 +370,13 @@ fn add_cut(
 /// Makes what a batch becomes, and keeps the hash of the header.
 fn add_batch(
     alloc: Global,
+    edition: Edition,
     reorder: bool,
     hashes: &mut Vec<[u8; 32]>,
     chain: &mut Chain,
     batch: &[Envelope],
 ) -> Result<Made, OrderCause>
-    requires height { length chain.old.blocks ≤ LAST_BLOCK }
+    requires height { length chain.old.blocks ≤ last_block edition }
     requires hashes { hashes.old.items ≡ hashes_of chain.old.blocks }
     requires batch { IsBlockData batch.now }
     ensures added { IfOk result
@@ -369,13 +386,14 @@ fn add_batch(
         (λ made. chain.new.blocks ≡ chain.old.blocks ++ option_to_list made.block) }
     ensures own { IfOk result (λ made. made.report.block ≡ number_in made.block) }
     ensures hashes { hashes.new.items ≡ hashes_of chain.new.blocks }
-    ensures number { OnOk result (length chain.new.blocks ≤ LAST_BLOCK) }
+    ensures number { OnOk result (length chain.new.blocks ≤ last_block edition) }
     ensures unchanged { OnErr result (chain.new ≡ chain.old) }
     ensures refused { IfErr result
-        (λ cause. IsBatchRefused (arranges_by reorder) cause chain.old.blocks batch.now) }
+        (λ cause. IsBatchRefused (last_block edition) (arranges_by reorder) cause
+        chain.old.blocks batch.now) }
 {
     hashes.reserve(1)?;
-    let made = make_block(alloc, reorder, tip_of(hashes), batch)?;
+    let made = make_block(alloc, edition, reorder, tip_of(hashes), batch)?;
     keep(hashes, chain, slice::from_ref(&made));
     Ok(made)
 }

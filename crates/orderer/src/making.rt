@@ -1,8 +1,9 @@
 //! A batch as a block, behind a chain of which the length and the last header's hash are known.
 
-ghost use Rattle.std.specs.Prelude.{◌≡◌, ◌≤◌, ◌+◌, ◌++◌, suc, IfErr, IfOk, List, MatchOption, length};
+ghost use Rattle.std.specs.Prelude.{◌≡◌, ◌≤◌, ◌+◌, ◌++◌, suc, IfErr, IfOk, IfSome, List, MatchOption, length};
 ghost use Rattle.std.specs.Option.{option_to_list};
 ghost use Rattle.fab_types.specs.Data.{IsBlockData};
+ghost use Rattle.fab_types.specs.Editions.{last_block};
 ghost use Rattle.fab_types.specs.declared.block.Block.{Block};
 ghost use Rattle.orderer.specs.Adding.{IsBatchRefused};
 ghost use Rattle.orderer.specs.Arranged.{arranges_by};
@@ -12,8 +13,7 @@ ghost use Rattle.orderer.specs.Places.{envelopes_at};
 
 use crate::arrangement::arrangement_of;
 use crate::report::{BatchReport, OrderCause};
-use fab_types::limits::LAST_BLOCK;
-use fab_types::{Block, BlockData, BlockNumber, Envelope, Header};
+use fab_types::{Block, BlockData, BlockNumber, Edition, Envelope, Header};
 use seq::Seq;
 use std::alloc::{AllocError, Global};
 use wire::data_hash;
@@ -35,24 +35,25 @@ pub struct Made {
 
 /// Arranges a batch, and makes the block behind a tip of what survives, if anything does.
 ///
-/// A tip is of at most 65,535 blocks. The error is `NoNumber` where a block past that number would
-/// be needed, or of memory.
+/// A tip is of at most as many blocks as the edition allows. The error is `NoNumber` where one more
+/// would be needed, or of memory.
 pub(crate) fn make_block(
     alloc: Global,
+    edition: Edition,
     reorder: bool,
     tip: Tip,
     batch: &[Envelope],
 ) -> Result<Made, OrderCause>
-    requires height { tip.height ≤ LAST_BLOCK }
+    requires height { tip.height ≤ last_block edition }
     requires batch { IsBlockData batch.now }
     ensures made { IfOk result (λ made. (chain : List Block) → tip ≡ tip_of chain →
         Adds (arranges_by reorder) chain batch.now made.report
         (chain ++ option_to_list made.block)) }
     ensures own { IfOk result (λ made. made.report.block ≡ number_in made.block) }
     ensures number { IfOk result
-        (λ made. tip.height + length (option_to_list made.block) ≤ LAST_BLOCK) }
+        (λ made. tip.height + length (option_to_list made.block) ≤ last_block edition) }
     ensures refused { IfErr result (λ cause. (chain : List Block) → tip ≡ tip_of chain →
-        IsBatchRefused (arranges_by reorder) cause chain batch.now) }
+        IsBatchRefused (last_block edition) (arranges_by reorder) cause chain batch.now) }
 {
     let arrangement = arrangement_of(alloc, reorder, batch)?;
     let survivors = pick(alloc, batch, &arrangement.order)?;
@@ -68,7 +69,7 @@ pub(crate) fn make_block(
             block: None,
         });
     }
-    let Some(number) = next_number(tip.height) else {
+    let Some(number) = next_number(edition, tip.height) else {
         return Err(OrderCause::NoNumber);
     };
     let report = BatchReport {
@@ -93,11 +94,15 @@ fn pick(alloc: Global, batch: &[Envelope], order: &[usize]) -> Result<Vec<Envelo
     Ok(envelopes)
 }
 
-/// The number of the block after `count` blocks. None where no block can follow.
-fn next_number(count: usize) -> Option<BlockNumber>
-    requires { count ≤ LAST_BLOCK }
-    ensures { MatchOption result (count ≡ LAST_BLOCK) (λ n. n ≡ suc count) }
+/// The number of the block after `count` blocks. None where the edition allows no more.
+fn next_number(edition: Edition, count: usize) -> Option<BlockNumber>
+    requires { count ≤ last_block edition }
+    ensures number { MatchOption result (count ≡ last_block edition) (λ n. n ≡ suc count) }
+    ensures limits { IfSome result (λ n. n ≤ last_block edition) }
 {
+    if count == edition.last_block() as usize {
+        return None;
+    }
     BlockNumber::new(count as u32 + 1)
 }
 

@@ -5,7 +5,9 @@ ghost use Rattle.std.specs.List.{filter};
 ghost use Rattle.std.specs.Option.{option_to_list};
 ghost use Rattle.std.specs.Vec.{vec_capacity};
 ghost use Rattle.batch_cutter.specs.Division.{message, timeout};
+ghost use Rattle.fab_types.specs.Editions.{last_block};
 ghost use Rattle.fab_types.specs.Size.{envelope_size};
+ghost use Rattle.fab_types.specs.declared.edition.Edition.TheVariants.{First};
 ghost use Rattle.orderer.specs.Blocks.{from_number, AreLinked};
 ghost use Rattle.orderer.specs.Headers.{blocks_made, reports_made};
 ghost use Rattle.orderer.specs.Ordering.{Ordering, AreLimits, Takes, IsRefused};
@@ -14,15 +16,15 @@ use crate::maker::BlockMaker;
 use crate::making::Made;
 use crate::report::{BatchReport, OrderRefusal};
 use fab_types::limits::LAST_BLOCK;
-use fab_types::{Block, Envelope};
+use fab_types::{Block, Edition, Envelope};
 use std::alloc::{AllocError, Global};
 use std::marker::Model;
 
 /// Cuts envelopes into batches, and puts a block of what survives of each at the end of a chain.
 ///
-/// Each block has the number after that of the block before it, from 1 to 65,535, the hash of that
-/// block's header (32 zero bytes in block 1) and the hash of its own data. A call that is refused
-/// changes nothing.
+/// Each block has the number after that of the block before it, from 1 to the last one of the
+/// edition, the hash of that block's header (32 zero bytes in block 1) and the hash of its own data.
+/// A call that is refused changes nothing.
 #[derive(Drop)]
 pub struct Orderer {
     maker: BlockMaker,
@@ -32,6 +34,7 @@ pub struct Orderer {
 
 impl Model for Orderer {
     ghost use Rattle.std.specs.Prelude.{◌≡◌, ◌≤◌, [], length};
+    ghost use Rattle.fab_types.specs.Editions.{last_block};
     ghost use Rattle.orderer.specs.Blocks.{AreLinked};
     ghost use Rattle.orderer.specs.Ordering.{Ordering};
 
@@ -39,12 +42,12 @@ impl Model for Orderer {
 
     ghost view = { λ o. o.maker };
 
-    ghost invariant = { λ o. (o.blocks.items ≡ o.maker.chain) × (length o.blocks.items ≤ 65535) ×
-        AreLinked [] o.blocks.items };
+    ghost invariant = { λ o. (o.blocks.items ≡ o.maker.chain) ×
+        (length o.blocks.items ≤ last_block o.maker.edition) × AreLinked [] o.blocks.items };
 }
 
 impl Orderer {
-    /// An orderer without blocks, where nothing waits.
+    /// An orderer under rules 1 without blocks, where nothing waits.
     ///
     /// A batch has at most `count` envelopes, 1 to 512. Envelopes of at most `preferred` bytes
     /// together share a batch, and one above it is a batch alone; none above `absolute` bytes is
@@ -61,6 +64,30 @@ impl Orderer {
             (record { count = count; preferred = preferred; absolute = absolute }) }
         ensures { result
             ≡ record {
+              edition = First;
+              reorder = reorder;
+              limits = record { count = count; preferred = preferred; absolute = absolute };
+              pending = [];
+              chain = [];
+            } }
+    {
+        Orderer::with_edition(alloc, Edition::First, count, preferred, absolute, reorder)
+    }
+
+    /// An orderer under this edition of the rules, else as `new` makes it.
+    pub fn with_edition(
+        alloc: Global,
+        edition: Edition,
+        count: usize,
+        preferred: usize,
+        absolute: usize,
+        reorder: bool,
+    ) -> Self
+        requires { AreLimits
+            (record { count = count; preferred = preferred; absolute = absolute }) }
+        ensures { result
+            ≡ record {
+              edition = edition;
               reorder = reorder;
               limits = record { count = count; preferred = preferred; absolute = absolute };
               pending = [];
@@ -68,7 +95,7 @@ impl Orderer {
             } }
     {
         Orderer {
-            maker: BlockMaker::new(alloc, count, preferred, absolute, reorder),
+            maker: BlockMaker::new(alloc, edition, count, preferred, absolute, reorder),
             blocks: Vec::new(alloc),
             alloc,
         }
@@ -77,14 +104,15 @@ impl Orderer {
     /// Takes an envelope in, and reports the batches that it ends, none to two, in their order.
     ///
     /// A refusal hands the envelope back. Its cause is 421 where the envelope is above the absolute
-    /// size, whatever memory there is. Else it is 422 where a block past number 65,535 would be
-    /// needed, or 9 where a growth of memory was refused, which may come before it is known whether a
-    /// number is left.
+    /// size, whatever memory there is. Else it is 422 where a block past the last one of the edition
+    /// would be needed, or 9 where a growth of memory was refused, which may come before it is known
+    /// whether a number is left.
     pub fn accept(&mut self, given: Envelope) -> Result<Vec<BatchReport>, OrderRefusal>
         ensures taken { IfOk result
             (λ reports. Takes self.old (message given) reports.items self.new) }
         ensures size { OnOk result (envelope_size given ≤ self.old.limits.absolute) }
-        ensures numbers { OnOk result (length self.new.chain ≤ LAST_BLOCK) }
+        ensures numbers { OnOk result
+            (length self.new.chain ≤ last_block self.old.edition) }
         ensures refused { IfErr result
             (λ refusal. IsRefused refusal.cause self.old (message given)) }
         ensures handed_back { IfErr result (λ refusal. refusal.envelope ≡ Some given) }
@@ -102,13 +130,14 @@ impl Orderer {
     /// Cuts the envelopes that wait, as a timeout does, and reports their batch. None where no
     /// envelope waits.
     ///
-    /// A refusal has no envelope. Its cause is 422 where a block past number 65,535 would be
-    /// needed, or 9 where a growth of memory was refused, which may come before it is known whether
-    /// a number is left.
+    /// A refusal has no envelope. Its cause is 422 where a block past the last one of the edition
+    /// would be needed, or 9 where a growth of memory was refused, which may come before it is known
+    /// whether a number is left.
     pub fn tick(&mut self) -> Result<Option<BatchReport>, OrderRefusal>
         ensures taken { IfOk result
             (λ report. Takes self.old timeout (option_to_list report) self.new) }
-        ensures numbers { OnOk result (length self.new.chain ≤ LAST_BLOCK) }
+        ensures numbers { OnOk result
+            (length self.new.chain ≤ last_block self.old.edition) }
         ensures refused { IfErr result (λ refusal. IsRefused refusal.cause self.old timeout) }
         ensures handed_back { IfErr result (λ refusal. refusal.envelope ≡ None) }
         ensures unchanged { OnErr result (self.new ≡ self.old) }
@@ -124,7 +153,8 @@ impl Orderer {
     pub fn blocks(&self) -> &[Block]
         ensures all { result.now ≡ self.now.chain }
         ensures linked { AreLinked [] self.now.chain }
-        ensures count { length self.now.chain ≤ LAST_BLOCK }
+        ensures count { length self.now.chain ≤ last_block self.now.edition }
+        ensures limits { length self.now.chain ≤ LAST_BLOCK }
     {
         &self.blocks
     }

@@ -29,7 +29,7 @@ pub struct BatchReport {
 pub enum OrderCause {
     /// The envelope is above the absolute size.
     TooLarge = 421,
-    /// The call would need a block past number 65,535.
+    /// The call would need a block past the last one that the ledger's rules allow.
     NoNumber = 422,
     /// A growth of memory was refused.
     Memory = 9,

@@ -1,3 +1,4 @@
 pub mod TagKeys
 pub mod Keys
+pub mod Ledgers
 pub mod Signers

@@ -1,8 +1,9 @@
 //! The seeds at hand, and the tags that are made by them.
 
-ghost use Rattle.std.specs.Prelude.{◌≡◌, [], option_map};
-ghost use Rattle.org_keys.specs.Signers.{is_at_hand, seed_for, tag_for};
+ghost use Rattle.std.specs.Prelude.{◌≡◌, ◌++◌, [], option_map};
+ghost use Rattle.org_keys.specs.Signers.{is_at_hand, seed_for, signed, tag_for};
 
+use crate::front::tag_front;
 use crate::organisation::OrgKey;
 use crate::public_key::PublicKey;
 use ed25519::SigningKey;
@@ -58,21 +59,33 @@ impl Signers {
         match key {
             OrgKey::Shared(_) => true,
             OrgKey::Public(public) => self.signing_key(public).is_some(),
+            OrgKey::Bound(public, _) => self.signing_key(public).is_some(),
         }
     }
 
     /// What is put on some bytes for who has this key: an HMAC under a shared one, a signature by
-    /// the seed of a public one. Where there is no key, or its seed is not at hand, an HMAC under
-    /// the empty key, which counts for nothing. No memory is taken.
+    /// the seed of a public one, for its ledger alone where it is bound. Where there is no key, or
+    /// its seed is not at hand, an HMAC under the empty key, which counts for nothing. No memory is
+    /// taken.
     pub fn tag(&self, key: Option<&OrgKey>, bytes: &[u8]) -> Tag
         ensures { result ≡ tag_for self.now (option_map (λ k. k.now) key.entry) bytes.now }
     {
         match key {
             Some(OrgKey::Shared(key)) => Tag::Hmac(hmac_tag::tag(key.as_slice(), bytes)),
-            Some(OrgKey::Public(public)) => match self.signing_key(public) {
-                Some(key) => Tag::Ed25519(key.sign(bytes)),
-                None => Tag::Hmac(hmac_tag::tag(&[], bytes)),
-            },
+            Some(OrgKey::Public(public)) => self.signed(public, &[], bytes),
+            Some(OrgKey::Bound(public, ledger)) => self.signed(public, &tag_front(ledger), bytes),
+            None => Tag::Hmac(hmac_tag::tag(&[], bytes)),
+        }
+    }
+
+    /// The signature of some bytes behind a front, by the seed of this public key. Where that is
+    /// not at hand, what is nobody's.
+    fn signed(&self, public: &PublicKey, front: &[u8], bytes: &[u8]) -> Tag
+        ensures { result
+            ≡ signed (seed_for self.now public.now) (front.now ++ bytes.now) bytes.now }
+    {
+        match self.signing_key(public) {
+            Some(key) => Tag::Ed25519(key.sign_behind(front, bytes)),
             None => Tag::Hmac(hmac_tag::tag(&[], bytes)),
         }
     }

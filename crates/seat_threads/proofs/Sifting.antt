@@ -3,6 +3,7 @@ use Rattle.std.proofs.Common.{◌++◌, Bool, ℕ, zero, suc, List, [], ◌∷�
 use Rattle.std.specs.List.{AllByRecursion}
 use Rattle.std.specs.Option.{option_to_list}
 use Rattle.std.proofs.lemmas.List.{append-nil}
+use Rattle.fab_types.specs.declared.edition.Edition.{Edition}
 use Rattle.fab_types.specs.declared.envelope.Envelope.{Envelope}
 use Rattle.fab_types.specs.declared.block.Block.{Block}
 use Rattle.fab_types.specs.Size.{envelope_size}
@@ -25,7 +26,8 @@ module _ (P : Envelope → Type 0) where
   abbrev pub AllInBlocks : List Block → Type 0
   AllInBlocks blocks = AllByRecursion (λ (b : Block). AllIn b.envelopes) blocks
 
-  accepted : {l : Limits} {r : Bool} {taken given ordered refused : List Envelope} → AcceptsEach l r taken given ordered refused → AllIn given → AllIn ordered
+  accepted : {a : Edition} {l : Limits} {r : Bool} {taken given ordered refused : List Envelope} → AcceptsEach a l r taken given ordered refused →
+      AllIn given → AllIn ordered
   accepted ends all = tt
   accepted (takes size h) all = (all.0, accepted h all.1)
   accepted (refuses why h) all = accepted h all.1
@@ -84,9 +86,9 @@ module _ (P : Envelope → Type 0) where
   ordered_from marks now h all = made now.reorder [] h.batches h.reports now.chain h.made tt (cut now.limits marks h.batches now.pending h.cut all)
 
   -- by what came of them
-  pub sifted : (l : Limits) (r : Bool) (given ordered refused : List Envelope) (now : Ordering) → AcceptsEach l r [] given ordered refused →
-      AreCut ordered now → AllIn given → AllInBlocks now.chain
-  sifted l r given ordered refused now each are all =
+  pub sifted : (a : Edition) (l : Limits) (r : Bool) (given ordered refused : List Envelope) (now : Ordering) →
+      AcceptsEach a l r [] given ordered refused → AreCut ordered now → AllIn given → AllInBlocks now.chain
+  sifted a l r given ordered refused now each are all =
       let put = accepted each all in
       ⊎_elim (λ h. ordered_from (map message ordered ++ timeout ∷ []) now h (said ordered (timeout ∷ []) put tt))
       (λ h. ordered_from (map message ordered) now h.0

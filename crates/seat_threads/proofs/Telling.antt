@@ -45,12 +45,12 @@ same_home a b same = λ i. record { intake = same.0 i; peer = same.4 i }
 
 pub told : (task : Task) (seen whole : Chain) (n : ℕ) (counts : Counts) (v : View) (d : Desk) (reorder : Bool) (limits : Limits) (r : Report) → n < 2 ^ 32
     → task.rounds < 2 ^ 32 → HasRetired task seen n counts [] v.known → IsPrefix seen whole → IsPrefix (chain_of task d.orderer) whole → v.senders ≡ n →
-    NoneMissing v → WasCut (envelopes_got v.got) d.orderer d.missing → d.orderer.reorder ≡ reorder → d.orderer.limits ≡ limits → counts_told r ≡ counts →
-    r.missing ≡ d.missing →
+    NoneMissing v → WasCut (envelopes_got v.got) d.orderer d.missing → d.orderer.edition ≡ task.endorsing.listed.edition → d.orderer.reorder ≡ reorder →
+    d.orderer.limits ≡ limits → counts_told r ≡ counts → r.missing ≡ d.missing →
     AreLinked [] d.orderer.chain × (r.blocks ≡ length d.orderer.chain) × AuditSays (exec_of task.endorsing.book) (chain_of task d.orderer) r.audit →
     (AllHandedOut (exec_of task.endorsing.book) (chain_of task d.orderer) (history (chain_of task d.orderer)) →
     r.audit ≡ Agrees (valid_count (history (chain_of task d.orderer)))) → TellsOfSeats task n reorder limits r
-told task seen whole n counts v d reorder limits r few short h more begins senders none cut reorder_is limits_are same missing chain honest =
+told task seen whole n counts v d reorder limits r few short h more begins senders none cut edition_is reorder_is limits_are same missing chain honest =
     let got_all = all_got v.got 0 h.outcomes
     (λ j p all at. none.0 j p all (subst (λ (known : List (ℕ × List Envelope)). get_elem? known j ≡ some (p, all)) (sym h.known) at)) in
     let alone : (p : ℕ) → n ≤ p → of p v.got ≡ [] = λ p le. none.1 p (omega (arith, senders, le)) in
@@ -66,8 +66,8 @@ told task seen whole n counts v d reorder limits r few short h more begins sende
     let exec = exec_of task.endorsing.book in
     let given = all_given task (chain_of task d.orderer) whole begins v.got h.outcomes came got_all
     (λ p le. alone p (omega (arith, h.seats_are, le))) in
-    let in_blocks = sifted (IsGiven exec (chain_of task d.orderer)) d.orderer.limits d.orderer.reorder (envelopes_got v.got) cut.0 refused d.orderer cut.2 cut.3
-    given in
+    let in_blocks = sifted (IsGiven exec (chain_of task d.orderer)) d.orderer.edition d.orderer.limits d.orderer.reorder (envelopes_got v.got) cut.0 refused
+    d.orderer cut.2 cut.3 given in
     record {
       whole = whole;
       outcomes = h.outcomes;
@@ -80,9 +80,12 @@ told task seen whole n counts v d reorder limits r few short h more begins sende
       endorsed = endorsed;
       ordered = cut.0;
       refused = refused;
-      each = by_same d.orderer.limits limits d.orderer.reorder reorder (envelopes_got v.got) cut.0 refused (sym limits_are) (sym reorder_is) cut.2;
+      each =
+          by_same d.orderer.edition task.endorsing.listed.edition d.orderer.limits limits d.orderer.reorder reorder (envelopes_got v.got) cut.0 refused
+          (sym edition_is) (sym limits_are) (sym reorder_is) cut.2;
       missing = omega (arith, missing, cut.4, parted, long, endorsed, rounds, bound);
       now = d.orderer;
+      edition_is = edition_is;
       reorder_is = reorder_is;
       limits_are = limits_are;
       cut = cut.3;

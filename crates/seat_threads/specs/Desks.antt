@@ -41,8 +41,8 @@ IsAtWork d = HasFirst d × HasAll d × HasOrdered (envelopes_got (knows d.receiv
 abbrev pub home_of : Desk → Home
 home_of d = record { intake = intake_of_receiver d.receiver; peer = peer_of_writer d.writer }
 
--- of one intake and one peer, with one set of rules and one way of ordering
+-- of one intake and one peer, with one set of rules, one way of ordering and one edition
 abbrev pub IsSameDesk : Desk → Desk → Type 0
 IsSameDesk a b =
     (intake_of_receiver a.receiver ≡ intake_of_receiver b.receiver) × (rules_of a.writer ≡ rules_of b.writer) × (a.orderer.limits ≡ b.orderer.limits)
-    × (a.orderer.reorder ≡ b.orderer.reorder) × (peer_of_writer a.writer ≡ peer_of_writer b.writer)
+    × (a.orderer.reorder ≡ b.orderer.reorder) × (peer_of_writer a.writer ≡ peer_of_writer b.writer) × (a.orderer.edition ≡ b.orderer.edition)

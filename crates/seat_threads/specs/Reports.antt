@@ -60,9 +60,10 @@ pub record TellsOfSeats (task : Task) (seats : ℕ) (reorder : Bool) (limits : L
   pub endorsed : r.endorsed ≡ length got
   pub ordered : List Envelope
   pub refused : List Envelope
-  pub each : AcceptsEach limits reorder [] (envelopes_got got) ordered refused
+  pub each : AcceptsEach task.endorsing.listed.edition limits reorder [] (envelopes_got got) ordered refused
   pub missing : r.missing ≡ length refused
   pub now : Ordering
+  pub edition_is : now.edition ≡ task.endorsing.listed.edition
   pub reorder_is : now.reorder ≡ reorder
   pub limits_are : now.limits ≡ limits
   pub cut : AreCut ordered now

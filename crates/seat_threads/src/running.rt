@@ -104,7 +104,8 @@ fn opened<R: Threads + Wait + Sync>(
     ensures work { IfOk result (λ t. IsAtWork t.1) }
     ensures ordering { IfOk result
         (λ t. (t.1.orderer.reorder ≡ genesis.now.reorder) ×
-        (t.1.orderer.limits ≡ limits_of genesis.now)) }
+        (t.1.orderer.limits ≡ limits_of genesis.now) ×
+        (t.1.orderer.edition ≡ (arc_value genesis.now.rules).edition)) }
     ensures rules { IfOk result
         (λ t. arc_value (rules_of t.1.writer) ≡ arc_value genesis.now.rules) }
     ensures refused { IfErr result IsOpeningRefused }
@@ -125,14 +126,16 @@ fn opened<R: Threads + Wait + Sync>(
 fn orderer(alloc: Global, genesis: &Genesis) -> Orderer
     ensures { result
         ≡ record {
+          edition = (arc_value genesis.now.rules).edition;
           reorder = genesis.now.reorder;
           limits = limits_of genesis.now;
           pending = [];
           chain = [];
         } }
 {
-    Orderer::new(
+    Orderer::with_edition(
         alloc,
+        genesis.rules.edition(),
         genesis.count,
         genesis.preferred,
         genesis.absolute,
@@ -196,6 +199,7 @@ fn at_work<R: Threads + Wait + Sync + Send + Copy + 'static>(
         task.endorsing.book ≡ arc_value genesis.now.book →
         task.endorsing.listed ≡ arc_value genesis.now.rules →
         task.endorsing.listed ≡ arc_value (rules_of desk.old.writer) →
+        desk.old.orderer.edition ≡ task.endorsing.listed.edition →
         AreWorkersOf task (home_of desk.old) (length workers.old.items) workers.old.items →
         TellsOfSeats task (length workers.old.items) desk.old.orderer.reorder
         desk.old.orderer.limits r) }

@@ -20,10 +20,11 @@ use Rattle.endorsement_policy.specs.declared.installed.ModulePlace.{ModulePlace}
 use Rattle.endorsement_policy.specs.declared.installed.ModulePlace.TheVariants as at
 use Rattle.endorsement_policy.specs.declared.installed.Usable.{Usable}
 use Rattle.host_api.specs.Executing as host
+use Rattle.host_api.specs.Given.{Given}
 use Rattle.chaincode_book.specs.declared.book.Chaincode.{Chaincode}
 use Rattle.chaincode_book.specs.declared.book.Held.{Held}
 use Rattle.chaincode_book.specs.Books.{Book, AreValid, modules_of, chaincode_at, installed_module, module_at_hand}
-use Rattle.simulator.specs.Execution.{Defined, Executable, amend_ending, put_of, execute, executable_at, executable_by, executable_definition, genesis_executable, not_executed, upgrade_ending, usable_executable, with_fuel, exec_of}
+use Rattle.simulator.specs.Execution.{Defined, Executable, amend_ending, put_of, execute, executable_at, executable_by, executable_definition, genesis_executable, not_executed, upgrade_ending, usable_executable, with_fuel, exec_of, given_by}
 
 all_found : {X : Type 0} (P : X → Type 0) (test : X → Bool) (xs : List X) → AllByRecursion P xs → IfSome (find test xs) P
 all_found P test [] h = tt
@@ -93,12 +94,12 @@ put_alone : (key value : Bytes) (ending : ledger.Ending) → IsAlone (λ m. put_
 put_alone key value ending = record { truthful = λ m. record { reads = tt; ranges = tt }; only = λ m n h. refl }
 
 -- what is known of each valid module
-module _ (alone : (wasm : Module) (fuel : ℕ) (argument : Bytes) → IsValid wasm → host.ReadsAlone wasm fuel argument) where
-  executed_alone : (found : Option Defined) → IsFit found → (argument : Bytes) → IsAlone (execute found argument)
-  executed_alone None fit argument = not_executed_alone ledger.Unknown
-  executed_alone (Some None) fit argument = not_executed_alone ledger.NotInstalled
-  executed_alone (Some (Some e)) fit argument =
-      let is = alone e.module e.fuel argument fit in record { truthful = λ m. is.truthful m; only = λ m n h. is.only m n h }
+module _ (alone : (wasm : Module) (fuel : ℕ) (given : Given) → IsValid wasm → host.ReadsAlone wasm fuel given) where
+  executed_alone : (found : Option Defined) → IsFit found → (given : Given) → IsAlone (execute found given)
+  executed_alone None fit given = not_executed_alone ledger.Unknown
+  executed_alone (Some None) fit given = not_executed_alone ledger.NotInstalled
+  executed_alone (Some (Some e)) fit given =
+      let is = alone e.module e.fuel given fit in record { truthful = λ m. is.truthful m; only = λ m n h. is.only m n h }
 
   -- and of executions that read a definition
   module _
@@ -107,8 +108,9 @@ module _ (alone : (wasm : Module) (fuel : ℕ) (argument : Bytes) → IsValid wa
     pub each_alone : (p : Proposal) → IsAlone (exec_of book p)
     unfolding exec_of
     each_alone (proposal.Call c) =
-        calls (definition_key c.chaincode) (λ value. execute (executable_by book c.chaincode value) c.argument)
-        (λ value. executed_alone (executable_by book c.chaincode value) (executable_fit book valid c.chaincode value) c.argument)
+        let given = given_by book.edition c in
+        calls (definition_key c.chaincode) (λ value. execute (executable_by book c.chaincode value) given)
+        (λ value. executed_alone (executable_by book c.chaincode value) (executable_fit book valid c.chaincode value) given)
     each_alone (proposal.Upgrade u) =
         upgrades (definition_key u.chaincode) (definition_bytes u.definition) (upgrade_ending (executable_definition book u.definition))
     each_alone (proposal.Amend a) =

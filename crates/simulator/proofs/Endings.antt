@@ -4,7 +4,6 @@ use Rattle.std.specs.Prelude.{◌==◌}
 use Rattle.interp.specs.declared.outcome.Outcome.{Outcome}
 use Rattle.interp.specs.declared.outcome.Outcome.TheVariants as outcome
 use Rattle.interp.specs.Ended.{Ended}
-use Rattle.ledger_model.specs.Chain.{Bytes}
 use Rattle.ledger_model.specs.Views.{Plain, Versioned, values_of}
 use Rattle.ledger_model.specs.Execution as ledger
 use Rattle.wasm_ast.specs.declared.trap.Trap.{Trap}
@@ -12,6 +11,7 @@ use Rattle.wasm_ast.specs.declared.trap.Trap.TheVariants as trap
 use Rattle.wasm_ast.specs.Traps.{trap_number}
 use Rattle.wasm_meaning.specs.Values.{Answer, Next, Trapped, Spent}
 use Rattle.wasm_meaning.specs.Program.{invocation}
+use Rattle.host_api.specs.Given.{Given}
 use Rattle.host_api.specs.Recorded.{Recorded, nothing_recorded, seen_on}
 use Rattle.host_api.specs.HostStep.{host_step}
 use Rattle.host_api.specs.Executing as host
@@ -64,24 +64,24 @@ done_is {X} x (outcome.Trapped kind used) =
 done_is x outcome.Spent = refl
 
 -- what an execution comes to whose host was opened as `before` and ended as `after`
-module _ {V : Type 0} (state_of : V → Versioned) (e : Executable) (argument : Bytes) (v : V) (before after : Recording V) (o : Outcome) where
+module _ {V : Type 0} (state_of : V → Versioned) (e : Executable) (given : Given) (v : V) (before after : Recording V) (o : Outcome) where
   pub record IsRun : Type 0 where
-    pub start : before ≡ record { opened = record { view = v; argument = argument }; records = nothing_recorded }
-    pub ends : Ended (invocation e.module (host_step (values_of (state_of before.opened.view)) before.opened.argument) before.records e.fuel) e.fuel o
+    pub start : before ≡ record { opened = record { view = v; given = given }; records = nothing_recorded }
+    pub ends : Ended (invocation e.module (host_step (values_of (state_of before.opened.view)) before.opened.given) before.records e.fuel) e.fuel o
         after.records
     pub keeps : after.opened ≡ before.opened
 
   module _ (run : IsRun) where
-    run_is : host.outcome e.module e.fuel argument (values_of (state_of v)) ≡ outcome_with (ending_in o) (values_of (state_of v)) after.records
+    run_is : host.outcome e.module e.fuel given (values_of (state_of v)) ≡ outcome_with (ending_in o) (values_of (state_of v)) after.records
     run_is =
-        let ends : Ended (invocation e.module (host_step (values_of (state_of v)) argument) nothing_recorded e.fuel) e.fuel o after.records =
+        let ends : Ended (invocation e.module (host_step (values_of (state_of v)) given) nothing_recorded e.fuel) e.fuel o after.records =
         subst (λ (b : Recording V).
-        Ended (invocation e.module (host_step (values_of (state_of b.opened.view)) b.opened.argument) b.records e.fuel) e.fuel o after.records) run.start
+        Ended (invocation e.module (host_step (values_of (state_of b.opened.view)) b.opened.given) b.records e.fuel) e.fuel o after.records) run.start
         run.ends in
         outcome_is e.fuel (values_of (state_of v)) _ o after.records ends
 
     pub answer_is : (r : Result (Unit {0}) SimRefusal) → r ≡ success_of o → let x =
-        host.outcome e.module e.fuel argument (values_of (state_of v)) in
+        host.outcome e.module e.fuel given (values_of (state_of v)) in
         done_or_refusal x.ending (parts_of (state_of v) x.seen) ≡ with_value (parts_of (state_of v) (seen_on (values_of (state_of v)) after.records)) r
     answer_is r is =
         let parts = parts_of (state_of v) (seen_on (values_of (state_of v)) after.records) in

@@ -6,6 +6,7 @@ use Rattle.std.specs.FinMap.{get}
 use Rattle.fab_types.specs.Memberships.{membership_key}
 use Rattle.fab_types.specs.Spelling.{definition_bytes, membership_bytes}
 use Rattle.fab_types.specs.declared.definition.Definition.{Definition}
+use Rattle.fab_types.specs.declared.edition.Edition.{Edition}
 use Rattle.fab_types.specs.declared.proposal.Proposal.{Proposal}
 use Rattle.fab_types.specs.declared.proposal.Proposal.TheVariants as proposal
 use Rattle.ledger_model.specs.Chain.{Bytes}
@@ -23,7 +24,7 @@ use Rattle.endorsement_policy.specs.declared.installed.Usable.{Usable}
 use Rattle.chaincode_book.specs.declared.book.Chaincode.{Chaincode}
 use Rattle.chaincode_book.specs.Books.{Book, modules_of, chaincode_at, module_at_hand}
 use Rattle.endorsement_policy.specs.Membership.{is_next}
-use Rattle.simulator.specs.Execution.{Defined, IsPartOf, amend_ending, exec_of, execute, executable_at, executable_by, executable_definition, is_at_hand, spelled_executable, upgrade_ending, usable_executable, with_fuel}
+use Rattle.simulator.specs.Execution.{Defined, IsPartOf, amend_ending, exec_of, execute, executable_at, executable_by, executable_definition, given_by, is_at_hand, spelled_executable, upgrade_ending, usable_executable, with_fuel}
 
 -- the same, or as where something is missing
 abbrev IsAlike : {X : Type 0} → (missing part whole : X) → Type 0
@@ -89,8 +90,12 @@ module _ (part whole : Book) (is : IsPartOf part whole) where
   unfolding exec_of
   exec_alike (proposal.Call c) m =
       let value = get m (definition_key c.chaincode) in
-      let run : Option Defined → ledger.Outcome = λ found. with_read (definition_key c.chaincode) value (execute found c.argument m) in
-      ends_alike (run (Some None)) _ _ refl (alike_made run (Some None) _ _ (executable_alike c.chaincode value))
+      let run : Edition → Option Defined → ledger.Outcome =
+      λ edition found. with_read (definition_key c.chaincode) value (execute found (given_by edition c) m) in
+      let there = executable_by whole c.chaincode value in
+      ends_alike (run part.edition (Some None)) _ _ refl
+      (subst (λ (edition : Edition). IsAlike (run part.edition (Some None)) (run part.edition (executable_by part c.chaincode value)) (run edition there))
+      is.edition (alike_made (run part.edition) (Some None) _ _ (executable_alike c.chaincode value)))
   exec_alike (proposal.Upgrade u) m =
       let run : Result Usable DefinitionFault → ledger.Outcome =
       λ r. upgraded (definition_key u.chaincode) (definition_bytes u.definition) (upgrade_ending r) m in

@@ -27,7 +27,7 @@ use Rattle.host_api.specs.Executing.{outcome_of, execution}
 use Rattle.host_api.specs.Parts.{parts_of}
 use Rattle.host_api.specs.declared.recorder.Parts.{Parts}
 use Rattle.chaincode_book.specs.Books.{Book, AreValid}
-use Rattle.simulator.specs.Execution.{Defined, HasBadPolicy, IsNotAtHand, IsNotNext, IsUnknown, amend_ending, execute, executable_definition, executable_in, exec_of, upgrade_ending}
+use Rattle.simulator.specs.Execution.{Defined, HasBadPolicy, IsNotAtHand, IsNotNext, IsUnknown, amend_ending, execute, executable_definition, executable_in, exec_of, given_by, upgrade_ending}
 use Rattle.simulator.specs.Answers.{SimRefusal, Answers, IsToldWhere, done_or_refusal}
 use Rattle.simulator.specs.declared.refusal.SimRefusal.TheVariants as refusal
 use Rattle.simulator.proofs.Alone.{IsFit, executable_fit}
@@ -87,12 +87,12 @@ module _ {X : Type 0} (x : X) (book : Book) (m : Plain) where
   amend_says a false e = e
 
   found_says : (c : Call) (found : Option Defined) → executable_in book m c.chaincode ≡ found → IsFit found →
-      Says book m (proposal.Call c) (done_or_refusal (execute found c.argument m).ending x)
+      Says book m (proposal.Call c) (done_or_refusal (execute found (given_by book.edition c) m).ending x)
   found_says c None e fit = e
   found_says c (Some None) e fit = e
   found_says c (Some (Some f)) e fit =
-      let ends = invocation_ends f.module (host_step m c.argument) nothing_recorded f.fuel fit in
-      run_says (proposal.Call c) _ (outcome_runs f.fuel m (execution f.module f.fuel c.argument m) ends)
+      let ends = invocation_ends f.module (host_step m (given_by book.edition c)) nothing_recorded f.fuel fit in
+      run_says (proposal.Call c) _ (outcome_runs f.fuel m (execution f.module f.fuel (given_by book.edition c) m) ends)
 
   exec_says : AreValid book → (p : Proposal) → Says book m p (done_or_refusal (exec_of book p m).ending x)
   unfolding exec_of
@@ -104,13 +104,13 @@ module _ {X : Type 0} (x : X) (book : Book) (m : Plain) where
 -- and what is so of a proposal makes its ending
 unknown_ends : (book : Book) (m : Plain) (p : Proposal) → IsUnknown book m p → (exec_of book p m).ending ≡ ledger.Unknown
 unfolding exec_of
-unknown_ends book m (proposal.Call c) h = ap (λ found. (execute found c.argument m).ending) h
+unknown_ends book m (proposal.Call c) h = ap (λ found. (execute found (given_by book.edition c) m).ending) h
 unknown_ends book m (proposal.Upgrade u) h = absurd h
 unknown_ends book m (proposal.Amend a) h = absurd h
 
 not_at_hand_ends : (book : Book) (m : Plain) (p : Proposal) → IsNotAtHand book m p → (exec_of book p m).ending ≡ ledger.NotInstalled
 unfolding exec_of
-not_at_hand_ends book m (proposal.Call c) h = ap (λ found. (execute found c.argument m).ending) h
+not_at_hand_ends book m (proposal.Call c) h = ap (λ found. (execute found (given_by book.edition c) m).ending) h
 not_at_hand_ends book m (proposal.Upgrade u) h = ap upgrade_ending h
 not_at_hand_ends book m (proposal.Amend a) h = absurd h
 

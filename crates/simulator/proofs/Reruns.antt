@@ -16,13 +16,14 @@ use Rattle.fab_types.specs.Spelling.{definition_bytes, membership_bytes}
 use Rattle.ledger_model.specs.Serial.{seen_key, seen_keys, read_key, range_keys}
 use Rattle.ledger_model.proofs.Views.{get-values_of, first-values_of}
 use Rattle.wasm_meaning.specs.Values.{Answer, Next, Branch, Returns, Trapped, Spent, Stuck}
+use Rattle.host_api.specs.Given.{Given}
 use Rattle.host_api.specs.Recorded.{Asked, Recorded, nothing_recorded, key_seen, range_seen, seen_on}
 use Rattle.host_api.specs.Executing.{outcome_of, execution}
 use Rattle.host_api.specs.Parts.{parts_of}
 use Rattle.host_api.specs.declared.recorder.Parts.{Parts}
 use Rattle.chaincode_book.specs.Books.{Book}
 use Rattle.endorsement_policy.specs.Membership.{is_next}
-use Rattle.simulator.specs.Execution.{Defined, amend_ending, executable_by, executable_definition, execute, exec_of, upgrade_ending}
+use Rattle.simulator.specs.Execution.{Defined, amend_ending, executable_by, executable_definition, execute, exec_of, given_by, upgrade_ending}
 use Rattle.simulator.proofs.Endings.{map_ok, answers_made}
 use Rattle.simulator.specs.Answers.{SimRefusal, Answers, done_or_refusal, Rerun, rerun_of, rerun_or_refusal, told_by, told_in}
 
@@ -41,10 +42,10 @@ outcome_asks fuel m (Trapped why left w) = (w.records, refl)
 outcome_asks fuel m (Spent w) = (w.records, refl)
 outcome_asks fuel m Stuck = (nothing_recorded, refl)
 
-executed_asks : (found : Option Defined) (argument : Bytes) (m : Plain) → Asks m (execute found argument m).seen
-executed_asks None argument m = (nothing_recorded, refl)
-executed_asks (Some None) argument m = (nothing_recorded, refl)
-executed_asks (Some (Some e)) argument m = outcome_asks e.fuel m (execution e.module e.fuel argument m)
+executed_asks : (found : Option Defined) (given : Given) (m : Plain) → Asks m (execute found given m).seen
+executed_asks None given m = (nothing_recorded, refl)
+executed_asks (Some None) given m = (nothing_recorded, refl)
+executed_asks (Some (Some e)) given m = outcome_asks e.fuel m (execution e.module e.fuel given m)
 
 -- a read in front is one question more
 read_asks : (m : Plain) (key : Bytes) (o : ledger.Outcome) → Asks m o.seen → Asks m (with_read key (get m key) o).seen
@@ -63,7 +64,8 @@ unfolding exec_of
 exec_asks book (proposal.Call c) m =
     let key = definition_key c.chaincode in
     let found = executable_by book c.chaincode (get m key) in
-    read_asks m key (execute found c.argument m) (executed_asks found c.argument m)
+    let given = given_by book.edition c in
+    read_asks m key (execute found given m) (executed_asks found given m)
 exec_asks book (proposal.Upgrade u) m =
     upgraded_asks m (definition_key u.chaincode) (definition_bytes u.definition) (upgrade_ending (executable_definition book u.definition))
 exec_asks book (proposal.Amend a) m =

@@ -2,6 +2,9 @@
 use Rattle.std.specs.Prelude.{◌≡◌, ◌||◌, ℕ, Bool, true, false, [], ◌∷◌, Option, Some, None, Result, Ok, Err, option_map, slice_get, is_some, not, if◌then◌else◌}
 use Rattle.std.specs.Option.{option_and_then}
 use Rattle.std.specs.FinMap.{get}
+use Rattle.fab_types.specs.Namespaces.{namespace}
+use Rattle.fab_types.specs.declared.edition.Edition.{Edition}
+use Rattle.fab_types.specs.declared.proposal.Call.{Call}
 use Rattle.fab_types.specs.declared.proposal.Proposal.{Proposal}
 use Rattle.fab_types.specs.declared.proposal.Proposal.TheVariants as proposal
 use Rattle.fab_types.specs.Memberships.{membership_key}
@@ -21,6 +24,7 @@ use Rattle.endorsement_policy.specs.declared.installed.ModulePlace.TheVariants a
 use Rattle.endorsement_policy.specs.declared.installed.Usable.{Usable}
 use Rattle.endorsement_policy.specs.declared.fault.DefinitionFault.{DefinitionFault}
 use Rattle.endorsement_policy.specs.declared.fault.DefinitionFault.TheVariants as fault
+use Rattle.host_api.specs.Given.{Given}
 use Rattle.host_api.specs.Recorded.{nothing_recorded, seen_on}
 use Rattle.host_api.specs.Executing.{outcome}
 use Rattle.chaincode_book.specs.Books.{Book, modules_of, chaincode_at, module_at_hand}
@@ -78,11 +82,15 @@ executable_in book m name = definition_in (genesis_executable book) (spelled_exe
 abbrev pub not_executed : ledger.Ending → Plain → Outcome
 not_executed ending m = record { ending = ending; seen = seen_on m nothing_recorded }
 
--- `invoke` of the module with the fuel, and with a proposal's argument
-abbrev pub execute : Option Defined → (argument : Bytes) → Plain → Outcome
-execute None argument m = not_executed ledger.Unknown m
-execute (Some None) argument m = not_executed ledger.NotInstalled m
-execute (Some (Some e)) argument m = outcome e.module e.fuel argument m
+-- what the execution of a call is given
+abbrev pub given_by : Edition → Call → Given
+given_by edition c = record { argument = c.argument; namespace = namespace edition c.chaincode }
+
+-- `invoke` of the module with the fuel, and with what is given
+abbrev pub execute : Option Defined → Given → Plain → Outcome
+execute None given m = not_executed ledger.Unknown m
+execute (Some None) given m = not_executed ledger.NotInstalled m
+execute (Some (Some e)) given m = outcome e.module e.fuel given m
 
 -- the module of an open definition is at hand; that of a closed one is to be installed, which `usable_by` asks for
 abbrev pub is_at_hand : Book → Definition → Bool
@@ -111,7 +119,7 @@ put_of key value ending =
 -- A call reads the key of its chaincode's definition and executes by what it has; an upgrade reads the key and puts its definition there; an
 -- amendment reads the key of the membership and puts its own there, if that may come next.
 unfoldable pub exec_of : Book → Exec
-exec_of book (proposal.Call c) = called (definition_key c.chaincode) (λ value. execute (executable_by book c.chaincode value) c.argument)
+exec_of book (proposal.Call c) = called (definition_key c.chaincode) (λ value. execute (executable_by book c.chaincode value) (given_by book.edition c))
 exec_of book (proposal.Upgrade u) =
     upgraded (definition_key u.chaincode) (definition_bytes u.definition) (upgrade_ending (executable_definition book u.definition))
 exec_of book (proposal.Amend a) =
@@ -144,6 +152,7 @@ IsNotNext book m (proposal.Amend a) = is_next book.installed.orgs (get m members
 
 -- the same genesis, and what is at hand in the one is the same in the other
 pub record IsPartOf (part whole : Book) : Type 0 where
+  pub edition : part.edition ≡ whole.edition
   pub chaincodes : part.chaincodes ≡ whole.chaincodes
   pub modules : part.modules ≡ whole.modules
   pub installed : part.installed ≡ whole.installed

@@ -17,7 +17,7 @@ ghost use Rattle.world_state.specs.Writing.{as_state};
 ghost use Rattle.host_api.specs.Plain.{plain_of};
 ghost use Rattle.host_api.specs.Parts.{parts_of};
 ghost use Rattle.host_api.specs.Executing.{outcome};
-ghost use Rattle.simulator.specs.Execution.{HasBadPolicy, IsNotAtHand, IsNotNext, IsUnknown, exec_of, is_at_hand};
+ghost use Rattle.simulator.specs.Execution.{HasBadPolicy, IsNotAtHand, IsNotNext, IsUnknown, exec_of, given_by, is_at_hand};
 ghost use Rattle.simulator.specs.Answers.{Answers, IsToldWhere, done_or_refusal, parts_or_refusal, payload_or_refusal, rerun_or_refusal, told_in};
 ghost use Rattle.simulator.specs.Success.{success_of};
 ghost use Rattle.simulator.specs.declared.refusal.SimRefusal.TheVariants.{UnknownChaincode, NotInstalled, BadPolicy, BadMembership};
@@ -27,10 +27,10 @@ use crate::refusal::SimRefusal;
 use chaincode_book::Book;
 use endorsement_policy::{ModuleId, is_next};
 use fab_types::{
-    Amend, Call, Definition, Key, Payload, PayloadParts, Proposal, Ranges, ReadItem, ReadSet,
-    Upgrade, Value, WriteItem, WriteSet,
+    Amend, Call, Definition, Edition, Key, Namespace, Payload, PayloadParts, Proposal, Ranges,
+    ReadItem, ReadSet, Upgrade, Value, WriteItem, WriteSet,
 };
-use host_api::{Parts, PlainMap, Recorder, View, look_up};
+use host_api::{Given, Parts, PlainMap, Recorder, View, look_up};
 use interp::{Outcome, run};
 use std::alloc::{AllocError, Global};
 use wire::{encode_definition, encode_membership};
@@ -135,7 +135,8 @@ fn execute_call<V: View>(
         Some(Found::NotAtHand) => return Err(SimRefusal::NotInstalled),
         Some(Found::AtHand(executable)) => executable,
     };
-    let parts = run_executable(alloc, &executable, view, &call.argument)?;
+    let given = given_by(book.edition(), call);
+    let parts = run_executable(alloc, &executable, view, given)?;
     let reads = parts.reads.with_first(ReadItem { key, version })?;
     Ok(Parts {
         reads,
@@ -145,20 +146,27 @@ fn execute_call<V: View>(
     })
 }
 
+/// What the execution of a call is given under an edition of the rules.
+pub fn given_by(edition: Edition, call: &Call) -> Given<'_>
+    ensures { result ≡ given_by edition call.now }
+{
+    Given::new(&call.argument, Namespace::of(edition, &call.chaincode))
+}
+
 /// What chaincode reads, answers and writes. It reads at most 256 keys, and none of a definition.
 fn run_executable<V: View>(
     alloc: Global,
     executable: &Executable<'_>,
     view: &V,
-    argument: &Value,
+    given: Given<'_>,
 ) -> Result<Parts, SimRefusal>
     ensures answer { Answers
-        (parts_or_refusal (outcome executable.now.module.now executable.now.fuel argument.now)
+        (parts_or_refusal (outcome executable.now.module.now executable.now.fuel given)
         (V.state view.now)) result }
     ensures shown { IfOk result (λ p. list_all (λ i. is_shown i.key) p.reads ≡ true) }
     ensures count { IfOk result (λ p. length p.reads ≤ 256) }
 {
-    let mut recorder = Recorder::new(alloc, view, argument);
+    let mut recorder = Recorder::new(alloc, view, given);
     let outcome = run(alloc, executable.module, &mut recorder, executable.fuel)?;
     succeed(outcome)?;
     Ok(recorder.into_parts())

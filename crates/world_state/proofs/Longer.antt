@@ -15,7 +15,7 @@ one_more [] c h k = (k, tt)
 one_more (b ∷ chain) c h k = (h.0, one_more chain c h.1 k)
 
 pub right_more : (chain : Chain) (c : Committed) (old new : List (Bytes × (Bytes × Version))) (known longer : List (Bytes × ℕ)) → IsRight chain old known →
-    c.block.header.number ≡ length chain + 1 → c.block.header.number ≤ 65535 → length c.flags ≡ length c.block.envelopes →
+    c.block.header.number ≡ length chain + 1 → c.block.header.number ≤ 4000000000 → length c.flags ≡ length c.block.envelopes →
     as_state new ≡ put_block (as_state old) c.block.header.number 0 c.block.envelopes c.flags →
     ((q : Bytes) → block_of_id longer q ≡ block_behind known c.block.header.number (ids_of c.block.envelopes) q) → IsBlock c.block →
     IsRight (chain ++ c ∷ []) new longer

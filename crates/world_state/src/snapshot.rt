@@ -103,7 +103,7 @@ impl Snapshot {
         }
     }
 
-    /// How many blocks there are, at most 65,535.
+    /// How many blocks there are, at most 4,000,000,000.
     pub fn height(&self) -> usize
         ensures value { result ≡ length self.now }
         ensures limits { length self.now ≤ LAST_BLOCK }
@@ -111,8 +111,8 @@ impl Snapshot {
         self.blocks.as_slice().len()
     }
 
-    /// The blocks with their flags, from block 1 on. There are at most 65,535, each within the
-    /// ledger's limits.
+    /// The blocks with their flags, from block 1 on. There are at most 4,000,000,000, each within
+    /// the ledger's limits.
     pub fn blocks(&self) -> &[Arc<CommittedBlock>]
         ensures value { blocks_in result.now ≡ self.now }
         ensures limits { length self.now ≤ LAST_BLOCK }

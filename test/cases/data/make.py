@@ -1,7 +1,7 @@
 #!/usr/bin/env python3
 """Writes orders*, sizes*, names*, ends.json, scans.jsonl, stranger.jsonl, bytes.jsonl, upgrades*, versions.jsonl,
-predicted.jsonl, profiles*, seatless.json, nobody.json, doubled.json, look.json, extend.wasm, signed*, alone*, second.json,
-forged.jsonl, open*, modules*, members*, args.jsonl, logs (*.log) and other lines of a peer (*.lines), key files and stores
+predicted.jsonl, profiles*, rules*, seatless.json, nobody.json, doubled.json, look.json, extend.wasm, signed*, alone*, second.json,
+forged.jsonl, bound*, open*, modules*, members*, args.jsonl, logs (*.log) and other lines of a peer (*.lines), key files and stores
 beside this file: events with envelopes, genesis files, modules files, modules and stores that are laid out here, by
 docs/RULES.md.
 
@@ -63,10 +63,10 @@ def installed(code, profile=1):
     return {"module": code.hex(), "profile": profile}
 
 
-def genesis(name, policy="'A'", more=(), modules=(), upgrade=None, fuel=400, **others):
-    """Two peers, a chaincode `kv` that puts `1` at `a`, more chaincodes by their names and modules, and modules as they
-    are listed. The policy is that of upgrades too, where these are given no other."""
-    chaincodes = [("kv", PUT_A, 1), *more]
+def genesis(name, policy="'A'", more=(), modules=(), upgrade=None, fuel=400, code=PUT_A, **others):
+    """Two peers, a chaincode `kv`, which puts `1` at `a` where its module is no other, more chaincodes by their names and
+    modules, and modules as they are listed. The policy is that of upgrades too, where these are given no other."""
+    chaincodes = [("kv", code, 1), *more]
     text = {
         "orgs": [{"name": org, "key": key.hex()} for org, key in KEYS.items()],
         "peers": list(KEYS),
@@ -555,6 +555,37 @@ write("seen-first.log", log([LIES]))
 numbers = ["1", "2", "99", "0", "01", "+1", "1 ", "1 1", " 1", "4294967297", "", "x"]
 write("seen.lines", asking(*(("seen", it) for it in numbers)))
 
+# The same ledger under rules 2, where the digest of its file stands in front of what is signed. Envelopes with A's HMAC and of B
+# its signature for this ledger, one as under rules 1, ones for two other ledgers, and one by another seed; what B says of the
+# block, signed so, as under rules 1, and for another ledger, in front and at all; and a store of the first envelope. The chaincode
+# puts `1` at `kv/a`: PUT_A with another key and other places.
+PUT_OWN = PUT_A.replace(b"\x41\0\x41\1\x41\1\x41\1", b"\x41\0\x41\4\x41\4\x41\1")
+PUT_OWN = PUT_OWN.replace(b"\x0b\x08\1\0\x41\0\x0b\2a1", b"\x0b\x0b\1\0\x41\0\x0b\5kv/a1")
+BOUND = {"orgs": [{"name": "A", "key": KEYS["A"].hex()}, B_SIGNS], "peers": ["B", "A"]}
+genesis("bound.json", policy="AND('A','B')", code=PUT_OWN, rules=2, **BOUND)
+
+
+def front(ledger):
+    """What stands in front of what is signed in a ledger of rules 2."""
+    return b"\xfftag " + hashlib.sha256((HERE / ledger).read_bytes()).digest()
+
+
+def both_tagged(data, signed, seed=SEEDS[0]):
+    """A payload with A's tag, and B's signature of these bytes."""
+    return data + b"\2" + tag_of("A", hmac.digest(KEYS["A"], data, "sha256")) + tag_of("B", rfc8032.sign(seed, signed))
+
+
+datas = [call(nonce, writes=puts(b"kv/a")) for nonce in range(1, 6)]
+fronts = [front("bound.json"), b"", front("signed.json"), b"\xfftag " + bytes(32), front("bound.json")]
+bounds = [both_tagged(data, it + data, SEEDS[at == 4]) for at, (data, it) in enumerate(zip(datas, fronts))]
+write("bound.log", log([it.hex() for it in bounds]))
+(HERE / "bound.store").write_bytes(record(1, NO_LINK, one=bounds[0])[0])
+own, other = (hashlib.sha256((HERE / name).read_bytes()).digest() for name in ("bound.json", "signed.json"))
+said = [b"\xffseen " + it + struct.pack(">I", 1) + LIE for it in (own, other)]
+signs = [fronts[0] + said[0], said[0], fronts[2] + said[0], fronts[2] + said[1]]
+write("bound-seen.log", log([bounds[0].hex(), *(f"seen B 1 {LIE.hex()} {rfc8032.sign(SEEDS[0], it).hex()}" for it in signs)]))
+write("bound.lines", asking(("call", calls[0]), ("seen", "1")))
+
 # A log and what is asked between its lines; lines that are none of a peer's, and such as have no tag or are no UTF-8; a line of
 # the log in which a call stands. The log is that of signed.store.
 CALL, GET = proposal(begin(0, 9)), json.dumps({"ask": "get", "key": "61"})
@@ -735,7 +766,7 @@ ID = "00" * 32
 questions = [
     {"ask": "setting"},
     {"ask": "block", "number": 1},
-    {"number": 65535, "ask": "block"},
+    {"number": 4000000000, "ask": "block"},
     {"ask": "get", "key": "61"},
     {"ask": "get", "key": "006b76"},
     {"ask": "get", "key": "6F"},
@@ -744,7 +775,7 @@ questions = [
     {"ask": "history", "key": "61"},
     {"ask": "history", "key": "61", "from": 1, "blocks": 1},
     {"blocks": 1000, "from": 2, "key": "61", "ask": "history"},
-    {"ask": "history", "key": "61", "from": 65535, "blocks": 1},
+    {"ask": "history", "key": "61", "from": 4000000000, "blocks": 1},
     {"ask": "transaction", "id": ID},
     {"ask": "satisfied", "chaincode": "kv", "orgs": ["A", "B"]},
     {"ask": "satisfied", "chaincode": "kv", "orgs": []},
@@ -759,7 +790,7 @@ none = [
     {"ask": "members", "number": 1},
     {"ask": "setting", "number": 1},
     {"ask": "block", "number": 0},
-    {"ask": "block", "number": 65536},
+    {"ask": "block", "number": 4000000001},
     {"ask": "block", "number": "1"},
     {"ask": "get", "key": ""},
     {"ask": "get", "key": "00" * 65},
@@ -771,7 +802,7 @@ none = [
     {"ask": "history", "key": "61", "from": 1},
     {"ask": "history", "key": "61", "blocks": 1},
     {"ask": "history", "key": "61", "from": 0, "blocks": 1},
-    {"ask": "history", "key": "61", "from": 65536, "blocks": 1},
+    {"ask": "history", "key": "61", "from": 4000000001, "blocks": 1},
     {"ask": "history", "key": "61", "from": 1, "blocks": 0},
     {"ask": "history", "key": "61", "from": 1, "blocks": 1001},
     {"ask": "history", "key": "61", "from": 1, "blocks": "1"},
@@ -786,6 +817,14 @@ none = [
     {"ask": "call", "chaincode": "kv", "arg": "00" * 4097},
 ]
 write("questions.lines", asks(*questions, *none, "", "[]", "{", questions[0]))
+
+# Ledgers under rules 1 and 2, and under rules that there are not. Calls that read versions of blocks past 65,535: two that no
+# chain here has, and one past the last number that a block can have.
+for number, named in enumerate(("one", "two", "three"), 1):
+    genesis(f"rules-{named}.json", rules=number)
+write("setting.lines", asks({"ask": "setting"}))
+past = enumerate((65536, 4000000000, 4000000001), 1)
+write("rules.log", log(envelope(call(nonce, reads=[(b"a", (block, 0))], writes=puts(b"a"))).hex() for nonce, block in past))
 calls = [{"chaincode": name, "arg": ""} for name in ("status", "trap", "zero", "kv")]
 # By texts; and by both, by a number among the texts, by no list, by a list as hex, and by more bytes than there may be.
 calls += [{"chaincode": "kv", "args": texts} for texts in (["a", "b"], [])]

@@ -4,7 +4,7 @@ use Rattle.host_api.specs.Executing.{outcome}
 use Rattle.host_api.proofs.equal_views.Goals as goal
 
 pub returns-clause-step : goal.returns-clause-step
-returns-clause-step c = λ a b e argument. ap (λ m. host_step m argument) e
+returns-clause-step c = λ a b e given. ap (λ m. host_step m given) e
 
 pub returns-clause-execution : goal.returns-clause-execution
-returns-clause-execution c = λ a b e wasm fuel argument. ap (outcome wasm fuel argument) e
+returns-clause-execution c = λ a b e wasm fuel given. ap (outcome wasm fuel given) e

@@ -7,7 +7,7 @@ abbrev pub invariant-loop-records : goal.invariant-loop-records
 invariant-loop-records l = record {
   reads : (cs : List Committed) (q : Progress) → Reads l.number (drop l.at l.bytes) cs q → Reads l.next l.bytes (l.records.items ++ cs) q;
   at : l.at ≤ length l.bytes;
-  number : l.number ≤ 65536;
+  number : l.number ≤ 4000000001;
 }
 
 abbrev pub decreases-loop-records : goal.decreases-loop-records

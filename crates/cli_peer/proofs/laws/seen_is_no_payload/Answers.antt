@@ -1,4 +1,4 @@
-use Rattle.cli_peer.proofs.NoPayload.{other_first}
+use Rattle.endorsement_policy.proofs.FirstBytes.{other_first}
 use Rattle.cli_peer.proofs.laws.seen_is_no_payload.Goals as goal
 
 pub returns : goal.returns

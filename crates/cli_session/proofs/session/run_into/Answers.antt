@@ -1,13 +1,11 @@
 use Rattle.std.proofs.Common.{arith, refl}
-use Rattle.ledger_setting.specs.Limits.{limits_of}
-use Rattle.fabric_core.specs.System.{fresh_orderer}
 use Rattle.cli_lines.proofs.Answering.{begins_by}
 use Rattle.cli_lines.proofs.Printing.{on_err}
 use Rattle.cli_session.specs.Stages.{Stage, stage_at}
 use Rattle.cli_session.specs.Whole.{BeginsFrom, LinesBegin}
 use Rattle.cli_session.proofs.Staying.{placed_stay}
 use Rattle.cli_session.proofs.Stored.{placed_kept}
-use Rattle.cli_session.proofs.Whole.{comes_to}
+use Rattle.cli_session.proofs.Whole.{comes_to, unread}
 use Rattle.cli_session.proofs.session.run_into.Goals as goal
 
 pub returns-in_err-system-clause-others : goal.returns-in_err-system-clause-others
@@ -18,7 +16,7 @@ pub returns-clause-comes : goal.returns-clause-comes
 returns-clause-comes g c =
     let genesis = c.args.genesis.now in
     let law = c.ordering_laws.ensures.step in
-    let began = c.ordering_laws.ensures.opening (fresh_orderer (limits_of genesis) genesis.reorder) (omega (arith, genesis.count_in_range.0)) (refl, refl) in
+    let began = c.ordering_laws.ensures.opening (unread genesis) (omega (arith, genesis.count_in_range.0)) (refl, refl) in
     let start : Stage = record { system = c.in_ok-system.system; names = c.new-bindings.result } in
     let end = c.run_to_end.new.self in
     comes_to genesis law began (g.B.Read.remaining c.args.lines.now) _ c.run_to_end.result start (stage_at end.system end.bindings) c.args.out.now

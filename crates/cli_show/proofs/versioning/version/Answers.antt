@@ -23,13 +23,13 @@ returns-clause-line g c =
     let text = string_bytes c.in_ok-line.line in
     let is = subst (λ (d : Data). IsJsonText d text) c.in_ok-numbers.ensures
     (record { exact = c.in_ok-line.ensures.text (ap has_float c.in_ok-numbers.ensures); read = c.in_ok-line.ensures.read }) in
-    on_ok c.print_line.result (Appends before after (line text)) (HasLines (version_json 1 2 1 1 ∷ []) before after)
-    (λ h. one_line (version_json 1 2 1 1) text before after is h) c.print_line.ensures.line
+    on_ok c.print_line.result (Appends before after (line text)) (HasLines (version_json 1 2 2 1 ∷ []) before after)
+    (λ h. one_line (version_json 1 2 2 1) text before after is h) c.print_line.ensures.line
 
-told : (t u : Told) (r : Result (Unit {0}) Failure) → Tells t u r → OnOk r (HasLines (version_json 1 2 1 1 ∷ []) t.bytes u.bytes) → IfErr r IsBrokenOff →
+told : (t u : Told) (r : Result (Unit {0}) Failure) → Tells t u r → OnOk r (HasLines (version_json 1 2 2 1 ∷ []) t.bytes u.bytes) → IfErr r IsBrokenOff →
     Answers Versions t u r
 told t u (Ok x) tells lines lost =
-    let p = lines_printed (version_json 1 2 1 1 ∷ []) t u tells.0 tells.1 lines in
+    let p = lines_printed (version_json 1 2 2 1 ∷ []) t u tells.0 tells.1 lines in
     inr (p.0, (refl, p.1), p.2)
 told t u (Err f) tells lines lost = inl lost
 

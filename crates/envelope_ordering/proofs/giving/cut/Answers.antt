@@ -12,7 +12,7 @@ returns-in-Ok-clause-cut c = λ given missing h.
     let new = c.tick.new.self in
     let takes = c.in-Ok.ensures.taken in
     one_timeout given old new missing missing
-    (λ marks was. c.ordering_laws.ensures.step marks old new timeout (option_to_list c.in-Ok.report) was takes) takes.limits takes.reorder refl h
+    (λ marks was. c.ordering_laws.ensures.step marks old new timeout (option_to_list c.in-Ok.report) was takes) takes.edition takes.limits takes.reorder refl h
 
 pub returns-in-Ok-clause-longer : goal.returns-in-Ok-clause-longer
 returns-in-Ok-clause-longer c = longer c.args.orderer.now timeout (option_to_list c.in-Ok.report) c.tick.new.self c.in-Ok.ensures.taken

@@ -13,7 +13,7 @@ returns-in-Ok-clause-ordered c = λ given h.
     let missing = c.args.missing.now in
     let takes = c.in-Ok.ensures.taken in
     one_taken given c.args.envelope old new missing missing
-    (λ marks was. c.ordering_laws.ensures.step marks old new mark c.in-Ok.reports.items was takes) takes.limits takes.reorder refl
+    (λ marks was. c.ordering_laws.ensures.step marks old new mark c.in-Ok.reports.items was takes) takes.edition takes.limits takes.reorder refl
     c.in-Ok.ensures.size h
 
 pub returns-in-Ok-clause-longer : goal.returns-in-Ok-clause-longer

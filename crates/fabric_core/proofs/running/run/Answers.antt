@@ -27,7 +27,8 @@ loop-event-preserved c =
     let e = c.event-item.result in
     let exec = exec_of in
     let r = rules_of (exec c.args.genesis.now.book.value) c.args.genesis.now.rules.value c.args.genesis.now.signers.value c.args.genesis.now.queue in
-    let start = opening c.args.genesis.now.peers.items c.args.genesis.now.seats (limits_of c.args.genesis.now) c.args.genesis.now.reorder in
+    let genesis = c.args.genesis.now in
+    let start = opening genesis.rules.value.edition genesis.peers.items genesis.seats (limits_of genesis) genesis.reorder in
     let h = ok_of _ c.advance.result (sym c.is_err.ensures.value ∙ c.if-is_err.false) c.advance.ensures.step in
     let here : slice_get events i ≡ Some e = get_here events i e (omega (arith, c.loop-event-test.true)) ∙ ap Some (sym c.event-item.is) in
     let same : rules_of (exec old.system.book) old.system.rules old.system.seeds old.system.capacity ≡ r =
@@ -53,9 +54,10 @@ returns-clause-run c =
     let ran = c.loop-event-test.ran in
     let i = c.loop-event.event-index in
     let limits = limits_of genesis in
-    let start = opening genesis.peers.items genesis.seats limits genesis.reorder in
+    let start = opening genesis.rules.value.edition genesis.peers.items genesis.seats limits genesis.reorder in
     let law = c.ordering_laws.ensures.step in
-    let began = c.ordering_laws.ensures.opening (fresh_orderer limits genesis.reorder) (omega (arith, genesis.count_in_range.0)) (refl, refl) in
+    let unread = fresh_orderer genesis.rules.value.edition limits genesis.reorder in
+    let began = c.ordering_laws.ensures.opening unread (omega (arith, genesis.count_in_range.0)) (refl, refl) in
     let steps : (more : List Reply) (w : World) → more ≡ c.loop-event.ran.replies.items → w ≡ c.loop-event.ran.system.world →
     AreSteps r start (take i events) more w =
     λ more w a b. subst (λ (x : World). AreSteps r start (take i events) more x) (sym b)
@@ -92,7 +94,7 @@ returns-clause-conflicts c on peer chain is =
     let ran = c.loop-event-test.ran in
     let r = rules_of (exec_of genesis.book.value) genesis.rules.value genesis.signers.value genesis.queue in
     let endorsed : List Placed → Envelope → Bool = λ before. is_endorsed genesis.rules.value (state before) in
-    older_run id_of endorsed r genesis.peers.items genesis.seats (limits_of genesis) genesis.reorder c.args.events.now
+    older_run genesis.rules.value.edition id_of endorsed r genesis.peers.items genesis.seats (limits_of genesis) genesis.reorder c.args.events.now
     ran.replies.items ran.system.world ran.refused refl (returns-clause-run c) on peer chain is
 
 pub returns-clause-fits : goal.returns-clause-fits

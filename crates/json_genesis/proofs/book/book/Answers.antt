@@ -22,6 +22,6 @@ returns-in-None-clause-refused c =
     let modules = c.in_ok-modules.ensures in
     let given = c.in-None.ensures.accepted.1 in (
       λ e. cc,
-      λ real. NoneIs-book _ _ _ _ _ _ definitions c.in_ok-more.ensures.ok
+      λ real. NoneIs-book _ _ _ _ _ _ _ definitions c.in_ok-more.ensures.ok
           (λ h. true≢false (sym (given (rw (c.in_ok-installed.ensures, modules.0, modules.1, parts.0, parts.1) h)))),
     )

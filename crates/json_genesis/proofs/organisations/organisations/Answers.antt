@@ -14,10 +14,10 @@ pub returns-then-not-are_different-clause-refused : goal.returns-then-not-are_di
 returns-then-not-are_different-clause-refused c =
     let names = c.deref-2.ensures.value ∙ c.in_ok-orgs.ensures ∙ ap names_of c.deref.ensures.value in
     let same = ap are_different (sym names) ∙ sym c.are_different.ensures ∙ c.if-not-are_different.true in
-    (λ e. cc, λ real os spelled. NoneIs-different names_of _ _ c.in_ok-organisations.ensures.ok same os spelled.0 spelled.1)
+    (λ e. cc, λ real os spelled. NoneIs-different names_of _ _ _ _ c.in_ok-organisations.ensures.ok same os spelled.0 spelled.1)
 
 pub returns-then-not-have_different_keys-clause-refused : goal.returns-then-not-have_different_keys-clause-refused
 returns-then-not-have_different_keys-clause-refused c =
     let these = ap (λ os. are_different (public_keys_of os)) (sym c.deref-3.ensures.value) in
     let same = these ∙ sym c.have_different_keys.ensures ∙ c.if-not-have_different_keys.true in
-    (λ e. cc, λ real os spelled. NoneIs-different public_keys_of _ _ c.in_ok-organisations.ensures.ok same os spelled.0 spelled.2)
+    (λ e. cc, λ real os spelled. NoneIs-different public_keys_of _ _ _ _ c.in_ok-organisations.ensures.ok same os spelled.0 spelled.2)

@@ -28,18 +28,18 @@ returns c = record {
         cut = subst (λ l. IsDivision envelope_size l (marks ++ mark ∷ []) (was.batches ++ takes.batches) new.pending) (sym takes.limits) cut;
         made = subst (λ p. AddsEach (arranges_by p) [] (was.batches ++ takes.batches) (was.reports ++ reports) new.chain) (sym takes.reorder) made;
       };
-  one = λ marks now other a b reorder limits.
+  one = λ marks now other a b edition reorder limits.
       let cut = subst (λ l. IsDivision envelope_size l marks b.batches other.pending) (sym limits) b.cut in
       let same = c.division_laws.ensures.one now.limits marks a.batches b.batches now.pending other.pending a.cut cut in
       let made = subst (λ p. AddsEach (arranges_by p) [] b.batches b.reports other.chain) (sym reorder) b.made in
       let made_same = subst (λ bs. AddsEach (arranges_by now.reorder) [] bs b.reports other.chain) (sym same.0) made in
       let chain = each_once (arranges_by now.reorder) (one_arrangement now.reorder) [] a.batches a.reports b.reports now.chain other.chain a.made made_same in
-      same_ordering now other reorder limits same.1 chain.1;
+      same_ordering now other edition reorder limits same.1 chain.1;
   answer = λ old new other mark reports left a b.
       let same = c.division_laws.ensures.one old.limits (map message old.pending ++ mark ∷ []) a.batches b.batches new.pending other.pending a.cut b.cut in
       let added = subst (λ bs. AddsEach (arranges_by old.reorder) old.chain bs left other.chain) (sym same.0) b.added in
       let once = each_once (arranges_by old.reorder) (one_arrangement old.reorder) old.chain a.batches reports left new.chain other.chain a.added added in
-      (once.0, same_ordering new other (a.reorder ∙ sym b.reorder) (a.limits ∙ sym b.limits) same.1 once.1);
+      (once.0, same_ordering new other (a.edition ∙ sym b.edition) (a.reorder ∙ sym b.reorder) (a.limits ∙ sym b.limits) same.1 once.1);
   past = λ old new mark reports out takes.
       let arranges = arranges_by old.reorder in
       let same = c.division_laws.ensures.one old.limits (map message old.pending ++ mark ∷ []) (out.first ++ out.others) takes.batches out.pending new.pending

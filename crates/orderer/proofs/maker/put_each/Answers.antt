@@ -1,6 +1,8 @@
-use Rattle.std.proofs.Common.{◌≡◌, ◌∙◌, List, [], ◌∷◌, ◌++◌, ap, subst}
+use Rattle.std.proofs.Common.{◌≡◌, ◌∙◌, List, [], ◌∷◌, ◌++◌, ap, subst, arith}
 use Rattle.std.specs.Option.{option_to_list}
 use Rattle.std.proofs.lemmas.Result.{err_from_is_err_and}
+use Rattle.fab_types.specs.Editions.{last_block}
+use Rattle.fab_types.proofs.Editions.{last_block_most}
 use Rattle.fab_types.specs.declared.block.Block.{Block}
 use Rattle.fab_types.specs.declared.envelope.Envelope.{Envelope}
 use Rattle.orderer.specs.Arranged.{arranges_by}
@@ -16,15 +18,18 @@ returns-in_err-make_block-in-One-clause-refused c =
     let arranges = arranges_by c.args.reorder in
     let p = err_from_is_err_and c.from_residual.result c.from_residual.ensures.1 in
     rw (p.1, p.2, c.in-One.is)
-    (λ chain at. first_refused arranges c.in_err-make_block-in-One.field-0.0 chain c.deref.result.now c.in-One.batch.items [] c.deref.ensures.value
+    (λ chain at. first_refused (last_block c.args.edition) arranges c.in_err-make_block-in-One.field-0.0 chain c.deref.result.now c.in-One.batch.items [] c.deref.ensures.value
     (c.in_err-make_block-in-One.ensures.refused chain at))
+
+pub tip_after-next-requires : goal.tip_after-next-requires
+tip_after-next-requires c = omega (arith, c.in_ok-made-in-Two.ensures.number, last_block_most c.args.edition)
 
 pub returns-in_err-made-in-Two-clause-refused : goal.returns-in_err-made-in-Two-clause-refused
 returns-in_err-made-in-Two-clause-refused c =
     let arranges = arranges_by c.args.reorder in
     let p = err_from_is_err_and c.from_residual-in_err-made-in-Two.result c.from_residual-in_err-made-in-Two.ensures.1 in
     rw (p.1, p.2, c.in-Two.is)
-    (λ chain at. first_refused arranges c.in_err-made-in-Two.field-0.0 chain c.deref-in-Two.result.now c.in-Two.first.items
+    (λ chain at. first_refused (last_block c.args.edition) arranges c.in_err-made-in-Two.field-0.0 chain c.deref-in-Two.result.now c.in-Two.first.items
     (c.in-Two.second.items ∷ []) c.deref-in-Two.ensures.value (c.in_err-made-in-Two.ensures.refused chain at))
 
 pub returns-in_err-make_block-in-Two-clause-refused : goal.returns-in_err-make_block-in-Two-clause-refused
@@ -33,7 +38,7 @@ returns-in_err-make_block-in-Two-clause-refused c =
     let one = c.in_ok-made-in-Two.made in
     let p = err_from_is_err_and c.from_residual-in_err-make_block-in-Two.result c.from_residual-in_err-make_block-in-Two.ensures.1 in
     rw (p.1, p.2, c.in-Two.is)
-    (λ chain at. second_refused arranges c.in_err-make_block-in-Two.field-0.0 chain (chain ++ option_to_list one.block) c.deref-in-Two.result.now
+    (λ chain at. second_refused (last_block c.args.edition) arranges c.in_err-make_block-in-Two.field-0.0 chain (chain ++ option_to_list one.block) c.deref-in-Two.result.now
     c.deref-in-Two-2.result.now c.in-Two.first.items c.in-Two.second.items one.report c.deref-in-Two.ensures.value c.deref-in-Two-2.ensures.value
     (c.in_ok-made-in-Two.ensures.made chain at)
     (c.in_err-make_block-in-Two.ensures.refused (chain ++ option_to_list one.block) (c.tip_after-next.ensures.tip chain at)))

@@ -1,5 +1,6 @@
 use Rattle.std.proofs.Common.{◌≡◌, ◌≤◌, Some, ap, length, rules, subst, sym, ◌∙◌}
 use Rattle.fab_types.specs.Data.{IsBlockData}
+use Rattle.fab_types.specs.Editions.{last_block}
 use Rattle.orderer.specs.Arranged.{arranges_by}
 use Rattle.orderer.specs.Blocks.{next_block}
 use Rattle.orderer.specs.Places.{envelopes_at}
@@ -15,8 +16,8 @@ returns-in_default-clause-refused c = λ chain at.
     let es = envelopes_at c.args.batch.now arrangement.order.items in
     let same : c.in_ok-survivors.survivors.items ≡ es = search rules in
     let some : 1 ≤ length c.in_ok-survivors.survivors.items = search rules in
-    let full : c.args.tip.height ≡ 65535 = search rules in
-    needs_one (arranges_by c.args.reorder) chain c.args.batch.now arrangement.order.items arrangement.aborted.items
+    let full : c.args.tip.height ≡ last_block c.args.edition = search rules in
+    needs_one (last_block c.args.edition) (arranges_by c.args.reorder) chain c.args.batch.now arrangement.order.items arrangement.aborted.items
     c.in_ok-arrangement.ensures.arranged
     (subst (λ xs. 1 ≤ length xs) same some) (sym (ap (λ (t : Tip). t.height) at) ∙ full)
 
@@ -42,4 +43,4 @@ returns-clause-made c = λ chain at.
     let count : c.len.result ≡ length es = search rules in
     let block = c.in_ok-block_of.ensures.next chain at ∙ ap (λ survivors. next_block chain survivors) same in
     one_made arranges c.args.tip chain batch order report c.in_ok-block_of.field-0 at arranged some block
-    (ap Some (c.get.ensures.value ∙ c.in-Some.ensures)) count
+    (ap Some (c.get.ensures.value ∙ c.in-Some.ensures.number)) count

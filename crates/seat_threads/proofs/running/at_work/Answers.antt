@@ -71,8 +71,9 @@ returns-clause-tells g c =
     let rules = tick.same.1 ∙ (rest.same.1 ∙ (retire.same.1 ∙ first.same.1)) in
     let limits = tick.same.2 ∙ (rest.same.2 ∙ (retire.same.2 ∙ first.same.2)) in
     let reorder = tick.same.3 ∙ (rest.same.3 ∙ (retire.same.3 ∙ first.same.3)) in
+    let edition = tick.same.5 ∙ (rest.same.5 ∙ (retire.same.5 ∙ first.same.5)) in
     if_ok _ _ c.reported.result
-    (λ r h task same book by_genesis listed workers.
+    (λ r h task same book by_genesis listed ordered_by workers.
     let promised = subst (λ (k : Home). AllPromise task k threads) (sym (same_home c.take_until_ended.new.desk c.args.desk.now first.same))
     (c.start_all-started.ensures.each task _ same workers) in
     let retired = retire.retired task promised in
@@ -94,7 +95,7 @@ returns-clause-tells g c =
     (sym book) (h.1.1.1.1 committed (ap (λ (l : Listed). judged_chain (table_of l) blocks) by_genesis)
     (by ∙ by_genesis)) in
     told task seen whole seats counts v desk _ _ r c.requires.count short all c.learn.ensures.mine begins senders rest.none
-    (tick.cut (envelopes_got v.got) rest.work.2 h.1.0) reorder limits h.0 h.1.1.0 (chain.0, chain.1, audited) honest)
+    (tick.cut (envelopes_got v.got) rest.work.2 h.1.0) (edition ∙ ordered_by) reorder limits h.0 h.1.1.0 (chain.0, chain.1, audited) honest)
     (both_ok _ _ c.reported.result reported.counted
     (both_ok _ _ c.reported.result reported.starved
     (both_ok _ _ c.reported.result reported.missing (both_ok _ _ c.reported.result reported.chain reported.honest))))

@@ -25,7 +25,7 @@ returns-clause-tells g c =
     (opened.workers c.args.rounds) in
     if_ok _ _ c.at_work-report.result
     (λ r h.
-    let tells = h task refl refl refl (sym opened.rules) workers in
+    let tells = h task refl refl refl (sym opened.rules) opened.ordering.2 workers in
     let seats = subst (λ (n : ℕ). TellsOfSeats task n c.in_ok-workers.desk.orderer.reorder c.in_ok-workers.desk.orderer.limits r) opened.count tells in
     let reorder = subst (λ (b : Bool). TellsOfSeats task genesis.seats b c.in_ok-workers.desk.orderer.limits r) opened.ordering.0 seats in
     subst (λ (l : Limits). TellsOfSeats task genesis.seats genesis.reorder l r) opened.ordering.1 reorder)

@@ -1,8 +1,9 @@
 use Rattle.std.proofs.Common.{◌∙◌, ◌++◌, ◌∷◌, [], ap, sym, subst, refl, map, arith}
 use Rattle.std.proofs.lemmas.List.{map-append, take_all}
 use Rattle.std.specs.List.{AllByRecursion}
+use Rattle.ledger_setting.specs.Limits.{limits_of}
 use Rattle.ledger_setting.specs.Rule.{table_of}
-use Rattle.fabric_core.specs.System.{chain_of_first, fresh}
+use Rattle.fabric_core.specs.System.{chain_of_first, fresh, fresh_orderer}
 use Rattle.endorsement_policy.specs.Endorsed.{Listed}
 use Rattle.orderer.specs.Ordering.{Ordering}
 use Rattle.fabric_core.specs.Inside.{peer_of, IsPeerRight, IsRight}
@@ -31,12 +32,16 @@ invariant_of-result c =
     let rules = c.in_ok-clone-3.field-0.value in
     let same = c.in_ok-clone-3.ensures.cases in
     let peers = c.loop-org.peers.items in
-    subst (λ (o : Ordering). IsRight rules peers o.chain) (sym c.new-3.ensures)
+    subst (λ (o : Ordering). IsRight rules peers o.chain) (sym c.with_edition.ensures)
     (subst (λ (l : Listed). IsRight l peers []) (sym same) c.loop-org.invariant.right)
 
 pub returns : goal.returns
 returns c =
-    let opened = fresh c.args.genesis.now.seats in
+    let genesis = c.args.genesis.now in
+    let opened = fresh genesis.seats in
+    let orderer =
+    c.with_edition.ensures
+    ∙ ap (λ e. fresh_orderer e (limits_of genesis) genesis.reorder) (c.edition.ensures ∙ ap (λ (l : Listed). l.edition) c.deref.ensures) in
     let peers =
     c.loop-org.invariant.state
     ∙ ap (map opened) (take_all c.loop-org.org-index c.as_slice-orgs.result.now c.loop-org-test.false ∙ c.as_slice-orgs.ensures.value) in
@@ -44,6 +49,6 @@ returns c =
       book = c.in_ok-clone-2.ensures.cases i;
       rules = c.in_ok-clone-3.ensures.cases i;
       seeds = c.in_ok-clone-4.ensures.cases i;
-      capacity = c.args.genesis.now.queue;
-      world = record { peers = peers i; queue = c.new-2.ensures.items i; orderer = c.new-3.ensures i };
+      capacity = genesis.queue;
+      world = record { peers = peers i; queue = c.new-2.ensures.items i; orderer = orderer i };
     }

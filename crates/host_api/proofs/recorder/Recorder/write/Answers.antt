@@ -74,7 +74,7 @@ returns-in_ok-self-inside-in-Ok-clause-answer g c =
     let done = recorded_of c.self.inside.reads.items c.self.inside.ranges.items c.self.inside.result after in
     let kept : done ≡ c.match-index_mut-branch.self.records =
     sym (ap (λ (r : Recording _). r.records)
-    {y = record { opened = record { view = c.self.inside.view.now; argument = c.self.inside.argument.now }; records = done }}
+    {y = record { opened = record { view = c.self.inside.view.now; given = c.self.inside.given }; records = done }}
     (elim c.match-index_mut-branch.branch [ in-Some-1 w ↦ w.self-is | in-None-1 w ↦ w.self-is ])) in
     λ memory. subst (λ (r : Recording _). write wanted memory r.records ≡ says 0 memory done) c.self.view_is
     (write_new c.self.inside.reads.items c.self.inside.ranges.items c.self.inside.result writes wanted after

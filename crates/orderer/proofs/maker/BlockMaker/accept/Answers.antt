@@ -29,12 +29,19 @@ returns-in-Ok-add_cut-clause-taken c =
       added = c.in-Ok-add_cut.ensures.added;
       limits = offers.limits;
       reorder = refl;
+      edition = refl;
     })
 
 pub returns-in-Err-add_cut-clause-refused : goal.returns-in-Err-add_cut-clause-refused
 returns-in-Err-add_cut-clause-refused c =
     let inside = c.self.inside in
-    let old : Ordering = record { reorder = inside.reorder; limits = inside.cutter.limits; pending = inside.cutter.pending; chain = inside.chain.blocks } in
+    let old : Ordering = record {
+      edition = inside.edition;
+      reorder = inside.reorder;
+      limits = inside.cutter.limits;
+      pending = inside.cutter.pending;
+      chain = inside.chain.blocks;
+    } in
     rw (← c.self.view_is)
     (mark_refused c.in-Err-add_cut.cause old (message c.args.given) (batches c.in-Ok.cut) c.offer.new.self.pending
     (λ large. omega (arith, large, c.in-Ok.ensures.size)) c.in-Ok.ensures.cut.divides c.in-Err-add_cut.ensures.refused)

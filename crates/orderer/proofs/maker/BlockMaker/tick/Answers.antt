@@ -2,6 +2,7 @@ use Rattle.std.proofs.Common.{[], ◌∷◌, ◌++◌, map, refl, sym, subst}
 use Rattle.batch_cutter.specs.Division.{message, timeout, IsDivision}
 use Rattle.batch_cutter.specs.Offers.{batch_of}
 use Rattle.fab_types.specs.Data.{IsBlockData}
+use Rattle.fab_types.specs.Editions.{last_block}
 use Rattle.fab_types.specs.Size.{envelope_size}
 use Rattle.orderer.specs.Blocks.{Adds}
 use Rattle.orderer.specs.Ordering.{Ordering, AreLimits}
@@ -42,15 +43,22 @@ returns-in-Ok-clause-taken c =
       added = (c.in-Ok.made.report, [], new, refl, adds, (refl, refl));
       limits = c.timeout.ensures.limits;
       reorder = refl;
+      edition = refl;
     })
 
 pub returns-in-Err-clause-refused : goal.returns-in-Err-clause-refused
 returns-in-Err-clause-refused c =
     let inside = c.self.inside in
     let pending = c.timeout.new.self.pending in
-    let old : Ordering = record { reorder = inside.reorder; limits = inside.cutter.limits; pending = inside.cutter.pending; chain = inside.chain.blocks } in
+    let old : Ordering = record {
+      edition = inside.edition;
+      reorder = inside.reorder;
+      limits = inside.cutter.limits;
+      pending = inside.cutter.pending;
+      chain = inside.chain.blocks;
+    } in
     let arranges = arranges_by inside.reorder in
     let cut = subst (λ r. IsDivision envelope_size old.limits (map message old.pending ++ timeout ∷ []) (batch_of r) pending) c.in-Some.is
     c.timeout.ensures.divides in
-    let why = first_refused arranges c.in-Err.cause old.chain c.deref.result.now c.in-Some.batch.items [] c.deref.ensures.value c.in-Err.ensures.refused in
+    let why = first_refused (last_block inside.edition) arranges c.in-Err.cause old.chain c.deref.result.now c.in-Some.batch.items [] c.deref.ensures.value c.in-Err.ensures.refused in
     rw (← c.self.view_is) (mark_refused c.in-Err.cause old timeout (c.in-Some.batch.items ∷ []) pending (λ none. none) cut why)

@@ -1,6 +1,8 @@
 use Rattle.std.proofs.Common.{◌≡◌, ◌≤◌, ◌∷◌, ◌++◌, List, [], ap, append-nil, length, subst, sym, ◌∙◌}
 use Rattle.std.specs.Option.{option_to_list}
+use Rattle.fab_types.specs.Editions.{last_block}
 use Rattle.fab_types.specs.declared.block.Block.{Block}
+use Rattle.fab_types.specs.declared.edition.Edition.{Edition}
 use Rattle.batch_cutter.specs.Division.{timeout}
 use Rattle.orderer.specs.Blocks.{AreLinked}
 use Rattle.orderer.proofs.Linking.{takes_linked}
@@ -18,4 +20,5 @@ invariant_of-self-in-Some c =
     let is : c.keep.new.blocks.items ≡ new.chain =
     c.keep.ensures.blocks ∙ ap (λ (bs : List Block). bs ++ more) before ∙ ap (λ (bs : List Block). old.chain ++ bs) (sym (append-nil more)) ∙ sym longer in
     let linked = takes_linked old new timeout (made.report ∷ []) taken (subst (AreLinked []) c.self.invariant.0 c.self.invariant.2) in
-    (is, subst (λ (bs : List Block). length bs ≤ 65535) (sym is) c.in_ok-made.ensures.numbers, subst (AreLinked []) (sym is) linked)
+    let room = subst (λ (d : Edition). length new.chain ≤ last_block d) (sym taken.edition) c.in_ok-made.ensures.numbers in
+    (is, subst (λ (bs : List Block). length bs ≤ last_block new.edition) (sym is) room, subst (AreLinked []) (sym is) linked)

@@ -69,7 +69,7 @@ loop-joined-preserved g c =
     let seen = told_list c.loop-joined.seen in
     let whole = told_list c.learn.new.self in (
       c.retire.ensures.work,
-      (same.0 ∙ inv.1.0, same.1 ∙ inv.1.1, same.2 ∙ inv.1.2, same.3 ∙ inv.1.3, same.4 ∙ inv.1.4),
+      (same.0 ∙ inv.1.0, same.1 ∙ inv.1.1, same.2 ∙ inv.1.2, same.3 ∙ inv.1.3, same.4 ∙ inv.1.4, same.5 ∙ inv.1.5),
       c.retire.ensures.senders ∙ inv.2,
       search rules,
       λ task all.

@@ -11,7 +11,8 @@ returns-clause-work c = (
   λ fed. (
     [],
     [],
-    subst (λ (got : List Parcel). AcceptsEach c.args.orderer.limits c.args.orderer.reorder [] (envelopes_got got) [] []) (sym c.requires.got) ends,
+    subst (λ (got : List Parcel). AcceptsEach c.args.orderer.edition c.args.orderer.limits c.args.orderer.reorder [] (envelopes_got got) [] [])
+        (sym c.requires.got) ends,
     c.ordering_laws.ensures.opening c.args.orderer c.requires.limits.some c.requires.opening,
     refl,
   ),

@@ -14,7 +14,7 @@ commit_new-requires-after_bounds g c κs within =
 pub returns-in-Ok-clause-same : goal.returns-in-Ok-clause-same
 returns-in-Ok-clause-same g c =
     let same = c.commit_new.ensures.same in
-    (same.0, same.1, same.2 ∙ c.give.ensures.same.0, same.3 ∙ c.give.ensures.same.1, same.4)
+    (same.0, same.1, same.2 ∙ c.give.ensures.same.1, same.3 ∙ c.give.ensures.same.2, same.4, same.5 ∙ c.give.ensures.same.0)
 
 pub returns-in-Ok-clause-ordered : goal.returns-in-Ok-clause-ordered
 returns-in-Ok-clause-ordered g c = λ given h fed.

@@ -21,7 +21,14 @@ takes-preserved g c =
     (ap envelopes_got more.1 ∙ map-append (λ (p : Parcel). p.envelope) before (parcel ∷ [])) in
     let ordered = subst (λ (es : List Envelope). HasOrdered es desk) (sym got) (order.ordered (envelopes_got before) inv.0.2) in (
       (order.step.0, order.step.1, ordered),
-      (order.same.0 ∙ (take.0.0 ∙ inv.1.0), order.same.1 ∙ inv.1.1, order.same.2 ∙ inv.1.2, order.same.3 ∙ inv.1.3, order.same.4 ∙ inv.1.4),
+      (
+        order.same.0 ∙ (take.0.0 ∙ inv.1.0),
+        order.same.1 ∙ inv.1.1,
+        order.same.2 ∙ inv.1.2,
+        order.same.3 ∙ inv.1.3,
+        order.same.4 ∙ inv.1.4,
+        order.same.5 ∙ inv.1.5,
+      ),
       ap (λ (r : ReceiverSeat). (knows r).known) order.receiver ∙ (take.2 ∙ inv.2),
       ap (λ (r : ReceiverSeat). (knows r).senders) order.receiver ∙ (take.1 ∙ inv.3),
     )

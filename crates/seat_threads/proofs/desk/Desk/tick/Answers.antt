@@ -14,7 +14,7 @@ commit_new-requires-after_bounds g c κs within =
 pub returns-in-Ok-clause-same : goal.returns-in-Ok-clause-same
 returns-in-Ok-clause-same g c =
     let same = c.commit_new.ensures.same in
-    (same.0, same.1, same.2 ∙ c.cut.ensures.same.0, same.3 ∙ c.cut.ensures.same.1, same.4)
+    (same.0, same.1, same.2 ∙ c.cut.ensures.same.1, same.3 ∙ c.cut.ensures.same.2, same.4, same.5 ∙ c.cut.ensures.same.0)
 
 pub returns-in-Ok-clause-cut : goal.returns-in-Ok-clause-cut
 returns-in-Ok-clause-cut g c = λ given h fed.

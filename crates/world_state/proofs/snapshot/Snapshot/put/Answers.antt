@@ -18,7 +18,7 @@ invariant_of-self-2 c =
     let flags : c.flags.result.now ≡ new.flags = c.flags.ensures.value ∙ ap (λ (b : Committed). b.flags) c.deref-2.ensures in
     let each : length new.flags ≡ length new.block.envelopes =
     subst (λ (b : Committed). length b.flags ≡ length b.block.envelopes) c.deref-2.ensures c.flags.ensures.one_each in
-    let limit : new.block.header.number ≤ 65535 = subst (λ (b : Block). b.header.number ≤ 65535) block c.in_ok-map.ensures.limits in
+    let limit : new.block.header.number ≤ 4000000000 = subst (λ (b : Block). b.header.number ≤ 4000000000) block c.in_ok-map.ensures.limits in
     let number : new.block.header.number ≡ length chain + 1 = omega (arith, c.requires.next, ap length c.self.view_is) in
     subst (λ (bs : Chain). IsRight bs c.in_ok-map.map.entries c.in_ok-map.ids.entries) (sym c.in_ok-push.ensures.ok)
     (right_more chain new s.map.entries _ s.ids.entries _ c.self.invariant number limit each

@@ -1,4 +1,4 @@
--- What is signed of a block that is seen begins as no payload does.
+-- No payload begins with the byte ff, which stands before all else that an organisation signs.
 use Rattle.std.proofs.Common.{◌≡◌, ℕ, List, [], ◌∷◌, ◌++◌, length, ap, arith}
 use Rattle.fab_types.specs.declared.proposal.Proposal.{Proposal}
 use Rattle.fab_types.specs.declared.proposal.Proposal.TheVariants as proposal
