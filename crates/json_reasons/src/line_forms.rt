@@ -235,7 +235,10 @@ const ASK_HISTORY: &[Form<Content>] = &[
 
 const ASK_BLOCK: &[Form<Content>] = &[Form {
     by: None,
-    fields: &[ASK, ("number", Content::One(Rule::Number(1, 4_000_000_000)))],
+    fields: &[
+        ASK,
+        ("number", Content::One(Rule::Number(1, 4_000_000_000))),
+    ],
 }];
 
 const ASK_RANGE: &[Form<Content>] = &[Form {

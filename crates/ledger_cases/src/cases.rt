@@ -77,9 +77,7 @@ fn answer_on_state(
         "get" => show_key(alloc, edition, snapshot, rest),
         "range" => show_range(alloc, edition, snapshot, rest),
         "simulate" => simulate_calls(alloc, edition, snapshot, rest, Profile::Core1),
-        "simulate2" => {
-            simulate_calls(alloc, edition, snapshot, rest, Profile::SignExtension)
-        }
+        "simulate2" => { simulate_calls(alloc, edition, snapshot, rest, Profile::SignExtension) }
         _ => answer_text(alloc, verb, rest),
     }
 }

@@ -45,9 +45,10 @@ IsOther key t = t.flag ≡ Valid → AllByRecursion (λ w. eq_by_cmp key_cmp key
 others : (ts : List Placed) (key : Bytes) → last_write ts key ≡ None → AllByRecursion (IsOther key) ts
 others [] key e = tt
 others (t ∷ ts) key e =
-    let parts = none_of (last_write ts key) (write_of t key) e in
-    ((λ v. other_keys t.envelope.payload.writes key (no_write (is_valid t.flag) (write_to t.envelope.payload.writes key) (ap is_valid v) parts.1)),
-    others ts key parts.0)
+    let parts = none_of (last_write ts key) (write_of t key) e in (
+      (λ v. other_keys t.envelope.payload.writes key (no_write (is_valid t.flag) (write_to t.envelope.payload.writes key) (ap is_valid v) parts.1)),
+      others ts key parts.0,
+    )
   where
     no_write : (b : Bool) (o : Option (Option Bytes)) → b ≡ true → cond b (option_map {U = Version × Option Bytes} (λ w. (t.version, w)) o) None ≡ None →
         o ≡ None

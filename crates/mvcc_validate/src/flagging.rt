@@ -83,12 +83,7 @@ fn flag_of(
 }
 
 /// Whether the reads of a payload were settled before the block, and are current.
-fn reads_hold(
-    edition: Edition,
-    snapshot: &Snapshot,
-    written: &Overlay,
-    payload: &Payload,
-) -> bool
+fn reads_hold(edition: Edition, snapshot: &Snapshot, written: &Overlay, payload: &Payload) -> bool
     ensures { (earlier : List Placed) →
         IsOver written.now.entries (state (history snapshot.now)) (state earlier) →
         AreWritten written.now.entries (since (history snapshot.now) earlier) →
