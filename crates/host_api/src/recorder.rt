@@ -90,7 +90,7 @@ impl<'v, V: View> Recorder<'v, V> {
     pub fn new(alloc: Global, view: &'v V, given: Given<'v>) -> Self
         ensures { result
             ≡ record {
-              opened = record { view = view.now; given = given };
+              opened = record { view = view.now; given = given.entry };
               records = nothing_recorded;
             } }
     {

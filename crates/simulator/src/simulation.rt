@@ -161,7 +161,7 @@ fn run_executable<V: View>(
     given: Given<'_>,
 ) -> Result<Parts, SimRefusal>
     ensures answer { Answers
-        (parts_or_refusal (outcome executable.now.module.now executable.now.fuel given)
+        (parts_or_refusal (outcome executable.now.module.now executable.now.fuel given.entry)
         (V.state view.now)) result }
     ensures shown { IfOk result (λ p. list_all (λ i. is_shown i.key) p.reads ≡ true) }
     ensures count { IfOk result (λ p. length p.reads ≤ 256) }
