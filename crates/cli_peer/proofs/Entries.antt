@@ -17,7 +17,7 @@ use Rattle.cli_peer.specs.Filters.{PrintsSo}
 use Rattle.cli_peer.specs.Logged.{IsLogged, Reached, TellsEntry, TellsReport, TellsText}
 use Rattle.cli_peer.specs.Marks.{NamesAnotherIn}
 use Rattle.cli_peer.specs.Printed.{read_text, skipped_text}
-use Rattle.cli_peer.specs.declared.log_genesis.LogGenesis.{LogGenesis}
+use Rattle.peer_answers.specs.declared.log_genesis.LogGenesis.{LogGenesis}
 use Rattle.cli_peer.proofs.Filters.{told_behind}
 
 -- a line that was read, by what is told of it

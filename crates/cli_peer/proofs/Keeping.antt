@@ -12,7 +12,7 @@ use Rattle.log_peer.specs.declared.peering.LogPeer.{LogPeer}
 use Rattle.log_peer.proofs.Keeping.{grows_none, grows_on, same_records}
 use Rattle.cli_lines.specs.Places.{FilesHeld}
 use Rattle.cli_lines.specs.Told.{PrintsNothing, Told}
-use Rattle.cli_peer.specs.Answering.{Peer}
+use Rattle.peer_answers.specs.Answering.{Peer}
 use Rattle.cli_peer.specs.Input.{Input, IsNext}
 use Rattle.cli_peer.specs.Filters.{BeginsSo, ComesTo}
 use Rattle.cli_peer.specs.Keeping.{HoldsChain, HoldsReached, KeepsStore, KeepsTold, LeadTo, Reaches, StartsWith, StoresOn, TellsLine, TellsLines, TellsStored}

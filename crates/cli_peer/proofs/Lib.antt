@@ -1,15 +1,12 @@
 pub mod Lines
 pub mod Filters
 pub mod Keeping
-pub mod Numerals
 pub mod LeftOut
 pub mod Transactions
 pub mod Entries
-pub mod Rights
 pub mod OneAnswer
 pub mod OneSighting
 pub mod OneEntry
 pub mod OneLine
 pub mod AtHand
 pub mod Rounds
-pub mod Sharing

@@ -12,13 +12,13 @@ use Rattle.json_questions.specs.declared.question.Question.{Question}
 use Rattle.ledger_model.specs.Chain.{Bytes, Chain}
 use Rattle.ledger_setting.specs.declared.genesis.Genesis.{Genesis}
 use Rattle.log_committer.specs.Committing.{block_at}
-use Rattle.cli_peer.specs.Answering.{IsAnswered, IsBlockOf, IsSighted, Peer, Says, seen_or_bad}
-use Rattle.cli_peer.specs.Calls.{IsCalled, called_words}
-use Rattle.cli_peer.specs.Numbers.{IsDecimal}
+use Rattle.peer_answers.specs.Answering.{IsAnswered, IsBlockOf, IsSighted, Peer, Says, seen_or_bad}
+use Rattle.peer_answers.specs.Calls.{IsCalled, called_words}
+use Rattle.peer_answers.specs.Numbers.{IsDecimal}
 use Rattle.cli_peer.specs.Peering.{DoesAsked}
-use Rattle.cli_peer.specs.declared.line.Request.{Request}
-use Rattle.cli_peer.specs.declared.line.Request.TheVariants.{Call, Question as Asked, Seen}
-use Rattle.cli_peer.specs.declared.log_genesis.LogGenesis.{LogGenesis}
+use Rattle.peer_answers.specs.declared.line.Request.{Request}
+use Rattle.peer_answers.specs.declared.line.Request.TheVariants.{Call, Question as Asked, Seen}
+use Rattle.peer_answers.specs.declared.log_genesis.LogGenesis.{LogGenesis}
 
 -- words spell one proposal, and one question
 pub record AreSpellings : Type 0 where

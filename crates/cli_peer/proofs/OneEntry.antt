@@ -33,8 +33,8 @@ use Rattle.log_peer.specs.declared.peering.PeerReport.TheVariants as peer
 use Rattle.cli_peer.specs.Alike.{SpellsNoEnvelope}
 use Rattle.cli_peer.specs.Logged.{TellsEntry, TellsReport, TellsSeen, TellsText, batch_text}
 use Rattle.cli_peer.specs.Printed.{read_text, skipped_text}
-use Rattle.cli_peer.specs.Seen.{IsUnsigned, Sighting, TellsFork}
-use Rattle.cli_peer.specs.declared.log_genesis.LogGenesis.{LogGenesis}
+use Rattle.peer_answers.specs.Seen.{IsUnsigned, Sighting, TellsFork}
+use Rattle.peer_answers.specs.declared.log_genesis.LogGenesis.{LogGenesis}
 use Rattle.cli_peer.proofs.OneSighting.{one_fork, one_seen, one_unsigned}
 
 abbrev IsOneMark : Type 0

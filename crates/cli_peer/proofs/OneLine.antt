@@ -20,12 +20,12 @@ use Rattle.log_committer.specs.declared.receiving.Received.{Received}
 use Rattle.log_committer.specs.declared.refusal.ReceiveRefusal.{ReceiveRefusal}
 use Rattle.log_peer.specs.Peering.{told_by}
 use Rattle.cli_peer.specs.Alike.{AreAlike, LogsNoEnvelope, SpellsNoEnvelope, logged_by, logged_in}
-use Rattle.cli_peer.specs.Answering.{Peer}
+use Rattle.peer_answers.specs.Answering.{Peer}
 use Rattle.cli_peer.specs.Filters.{AreDone}
-use Rattle.cli_peer.specs.Lines.{Asks, Logs, Said, said_in}
+use Rattle.peer_answers.specs.Lines.{Asks, Logs, Said, said_in}
 use Rattle.cli_peer.specs.Logged.{IsLogged, Reached, TellsEntry}
 use Rattle.cli_peer.specs.Peering.{DoesLine, DoesSaid}
-use Rattle.cli_peer.specs.declared.log_genesis.LogGenesis.{LogGenesis}
+use Rattle.peer_answers.specs.declared.log_genesis.LogGenesis.{LogGenesis}
 use Rattle.cli_peer.proofs.OneAnswer.{AreSpellings, one_asked}
 use Rattle.cli_peer.proofs.OneEntry.{entry_once}
 

@@ -7,9 +7,9 @@ use Rattle.fab_types.specs.Limits.{IsOrgName}
 use Rattle.ledger_model.specs.Chain.{Bytes, Chain}
 use Rattle.fab_types.specs.declared.block.Block.{Block}
 use Rattle.endorsement_policy.specs.Endorsed.{Listed}
-use Rattle.cli_peer.specs.Parts.{behind_first, first_word}
-use Rattle.cli_peer.specs.Seen.{AreWords, IsSeen, IsUnsigned, Sighting, SpellsSeen, SpellsSigned, TellsFork, TellsSigned, bytes_in, forked_text, sighting, signature_in}
-use Rattle.cli_peer.specs.declared.seen.SignedSeen.{SignedSeen}
+use Rattle.peer_answers.specs.Parts.{behind_first, first_word}
+use Rattle.peer_answers.specs.Seen.{AreWords, IsSeen, IsUnsigned, Sighting, SpellsSeen, SpellsSigned, TellsFork, TellsSigned, bytes_in, forked_text, sighting, signature_in}
+use Rattle.peer_answers.specs.declared.seen.SignedSeen.{SignedSeen}
 
 one_if : {T : Type 0} (a b : Option T) (P : Type 0) (v : T) → SomeIff a P v → SomeIff b P v → a ≡ b
 one_if None None P v x y = refl

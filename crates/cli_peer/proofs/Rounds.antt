@@ -13,13 +13,14 @@ use Rattle.std.specs.Result.{result_ok}
 use Rattle.std.specs.Str.Lossy.{utf8_lossy}
 use Rattle.ledger_model.specs.Chain.{Bytes, Chain}
 use Rattle.cli_lines.specs.Texts.{line}
-use Rattle.cli_peer.specs.Answering.{Peer, Says}
+use Rattle.peer_answers.specs.Answering.{Peer, Says}
 use Rattle.cli_peer.specs.Input.{HasNoEnd, Input, IsNext, IsTaken}
-use Rattle.cli_peer.specs.Lines.{Asks, Said, said_in}
-use Rattle.cli_peer.specs.Rounds.{AreKnown, IsAnswerTo, IsFilled, IsKnown, IsRound, ReadsBehind, ReadsOn, left_behind}
-use Rattle.cli_peer.specs.Spoken.{answer_text}
-use Rattle.cli_peer.specs.declared.answer.Answer.{Answer}
-use Rattle.cli_peer.specs.declared.line.Request.{Request}
+use Rattle.peer_answers.specs.Lines.{Asks, Said, said_in}
+use Rattle.cli_peer.specs.Rounds.{AreKnown, IsFilled, IsRound, ReadsBehind, ReadsOn, left_behind}
+use Rattle.peer_answers.specs.Known.{IsAnswerTo, IsKnown}
+use Rattle.peer_answers.specs.Spoken.{answer_text}
+use Rattle.peer_answers.specs.declared.answer.Answer.{Answer}
+use Rattle.peer_answers.specs.declared.line.Request.{Request}
 use Rattle.cli_peer.specs.declared.round.Round.{Round}
 
 abbrev line_of : Vec ℕ → List ℕ
@@ -169,13 +170,6 @@ module _ (p : Peer) (chain : Chain) where
   known_step ks found next ls l rest steps is over known =
       known_next ks found next l rest is (subst (AreKnown p chain ks) steps known) over
 
--- what is said to a line that asks for something is the answer to it
-pub answer_is : {E : Type 0} (p : Peer) (chain : Chain) (l : Bytes) (request : Request) (tag words : Bytes) (r : Result Answer E) →
-    Some (Asks request tag words) ≡ said_in (utf8_lossy l) → IfOk r (λ a. Says p chain request words (answer_text a)) →
-    IfSome (result_ok r) (λ a. IsAnswerTo p chain (said_in (utf8_lossy l)) a)
-answer_is p chain l request tag words (Ok a) says said = subst (λ (s : Option Said). IsAnswerTo p chain s a) says said
-answer_is p chain l request tag words (Err e) says said = tt
-
 -- where the line asks so, it is said so
 pub known_asked : (p : Peer) (chain : Chain) (l : Bytes) (known : Option Answer) (request : Request) (tag words : Bytes) → IsKnown p chain l known →
     Some (Asks request tag words) ≡ said_in (utf8_lossy l) → IfSome known (λ a. Says p chain request words (answer_text a))
@@ -189,14 +183,3 @@ round_forgotten p old new before after is none same = (
   subst (λ (ls : List (Vec ℕ)). All IsWhole ls) (sym same) is.0,
   subst (λ (known : List (Option Answer)). AreKnown p new known after.lines.items) (sym none) tt,
 )
-
--- ---- side by side
-
--- lists of which each place is related
-pub zip_each : {A B : Type 0} (R : A → B → Type 0) (xs : List A) (ys : List B) → length ys ≡ length xs →
-    ((i : ℕ) (d : A) (e : B) → i < length xs → R (slice_index_or xs i d) (slice_index_or ys i e)) → AllZip R xs ys
-zip_each R [] [] long each = tt
-zip_each R [] (y ∷ ys) long each = absurd (omega (arith, long))
-zip_each R (x ∷ xs) [] long each = absurd (omega (arith, long))
-zip_each R (x ∷ xs) (y ∷ ys) long each =
-    (each 0 x y (omega arith), zip_each R xs ys (omega (arith, long)) (λ i d e h. each (suc i) d e (omega (arith, h))))

@@ -5,7 +5,7 @@ use Rattle.std.specs.Str.Lossy.{utf8_lossy}
 use Rattle.hex.specs.Hex.{decode_of}
 use Rattle.ledger_model.specs.Chain.{Bytes}
 use Rattle.log_orderer.specs.Lines.{IsNoMark}
-use Rattle.cli_peer.specs.Lines.{Asks, Logs, Said, said_in}
+use Rattle.peer_answers.specs.Lines.{Asks, Logs, Said, said_in}
 
 -- the text of a line of the log; none of any other line
 abbrev pub logged_by : Option Said → List Bytes

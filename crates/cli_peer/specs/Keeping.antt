@@ -8,7 +8,7 @@ use Rattle.log_peer.specs.Peering.{file_of, held_by}
 use Rattle.log_peer.specs.declared.peering.LogPeer.{LogPeer}
 use Rattle.cli_lines.specs.Places.{FilesHeld}
 use Rattle.cli_lines.specs.Told.{Told}
-use Rattle.cli_peer.specs.Answering.{Peer}
+use Rattle.peer_answers.specs.Answering.{Peer}
 use Rattle.cli_peer.specs.Filters.{AreDone, BeginsSo, ComesTo}
 use Rattle.cli_peer.specs.Input.{AreAll}
 use Rattle.cli_peer.specs.Logged.{Reached}

@@ -20,8 +20,8 @@ use Rattle.log_peer.specs.declared.refusal.StoreRefusal.{StoreRefusal}
 use Rattle.cli_lines.specs.Texts.{line}
 use Rattle.cli_peer.specs.Marks.{NamesAnotherIn}
 use Rattle.cli_peer.specs.Printed.{aborted_text, joined_text, read_text, skipped_text}
-use Rattle.cli_peer.specs.Seen.{IsSeen, IsUnsigned, Sighting, TellsFork}
-use Rattle.cli_peer.specs.declared.log_genesis.LogGenesis.{LogGenesis}
+use Rattle.peer_answers.specs.Seen.{IsSeen, IsUnsigned, Sighting, TellsFork}
+use Rattle.peer_answers.specs.declared.log_genesis.LogGenesis.{LogGenesis}
 
 -- what it has, and whether a line of the log was read
 pub record Reached : Type 0 where

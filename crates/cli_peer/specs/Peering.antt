@@ -6,12 +6,12 @@ use Rattle.ledger_model.specs.Chain.{Bytes, Chain}
 use Rattle.log_peer.specs.Peering.{fresh}
 use Rattle.cli_lines.specs.Texts.{bad_line, line}
 use Rattle.cli_lines.specs.declared.failure.Failure.{Failure}
-use Rattle.cli_peer.specs.Answering.{AnswersText, Peer}
+use Rattle.peer_answers.specs.Answering.{AnswersText, Peer}
 use Rattle.cli_peer.specs.Filters.{DoesOrEnds, Filters, FiltersBegin, FiltersTo}
-use Rattle.cli_peer.specs.Lines.{Asks, Logs, Said, said_in}
+use Rattle.peer_answers.specs.Lines.{Asks, Logs, Said, said_in}
 use Rattle.cli_peer.specs.Logged.{EndsEntry, IsLogged, Reached}
 use Rattle.cli_peer.specs.Opening.{ComesBehind, Opens, TellsUnopened}
-use Rattle.cli_peer.specs.declared.line.Request.{Request}
+use Rattle.peer_answers.specs.declared.line.Request.{Request}
 
 -- ---- a line
 

@@ -3,29 +3,15 @@ use Rattle.std.specs.Prelude.{◌≡◌, ◌<◌, ◌++◌, ℕ, List, [], ◌�
 use Rattle.std.specs.Global.{Vec}
 use Rattle.std.specs.Io.KnownBytes.{Consumes, prepend_known}
 use Rattle.std.specs.List.{flat_map}
-use Rattle.std.specs.Str.Lossy.{utf8_lossy}
 use Rattle.ledger_model.specs.Chain.{Bytes, Chain}
 use Rattle.cli_lines.specs.Texts.{line}
-use Rattle.cli_peer.specs.Answering.{Peer, Says}
+use Rattle.peer_answers.specs.Answering.{Peer}
 use Rattle.cli_peer.specs.Input.{HasNoEnd, Input}
-use Rattle.cli_peer.specs.Lines.{Asks, Said, said_in}
-use Rattle.cli_peer.specs.Spoken.{answer_text}
-use Rattle.cli_peer.specs.declared.answer.Answer.{Answer}
+use Rattle.peer_answers.specs.Known.{IsKnown}
+use Rattle.peer_answers.specs.declared.answer.Answer.{Answer}
 use Rattle.cli_peer.specs.declared.round.Round.{Round}
 
--- ---- answers that are known before their lines are done
-
--- a line asks for something, and this answer is given to it by the chain
-abbrev pub IsAnswerTo : Peer → Chain → Option Said → Answer → Type 0
-IsAnswerTo p chain (Some (Asks request tag words)) answer = Says p chain request words (answer_text answer)
-IsAnswerTo p chain said answer = ⊥
-
--- what is known of the answer to a line, if anything
-abbrev pub IsKnown : Peer → Chain → (l : Bytes) → Option Answer → Type 0
-IsKnown p chain l None = Unit {0}
-IsKnown p chain l (Some answer) = IsAnswerTo p chain (said_in (utf8_lossy l)) answer
-
--- the same of the first of these lines, in their order: of none, of some or of all
+-- what is known of the answers to the first of these lines, in their order: of none, of some or of all
 abbrev pub AreKnown : Peer → Chain → List (Option Answer) → List (Vec ℕ) → Type 0
 AreKnown p chain [] lines = Unit {0}
 AreKnown p chain (a ∷ answers) [] = ⊥

@@ -2,7 +2,7 @@
 use Rattle.std.specs.Prelude.{◌≡◌}
 use Rattle.log_peer.specs.Peering.{IsPeer, held_by, rules_of}
 use Rattle.cli_peer.specs.Logged.{Reached}
-use Rattle.cli_peer.specs.declared.log_genesis.LogGenesis.{LogGenesis}
+use Rattle.peer_answers.specs.declared.log_genesis.LogGenesis.{LogGenesis}
 use Rattle.cli_peer.specs.declared.peering.Reader.{Reader}
 
 module _ {D : Type 0} where

@@ -2,10 +2,7 @@
 
 ghost use Rattle.std.specs.Prelude.{◌≡◌};
 
-use crate::answer::{Answer, CallRefusal};
-use crate::line::Request;
 use crate::marks::leaves_genesis_open;
-use crate::numbers::number_in;
 use cli_lines::{
     Files, Location, TAKE_AGAIN, block_words, explain, explain_bad_line, explain_number,
     explain_numbered, flags_words, simulation_words,
@@ -14,6 +11,7 @@ use json_reasons::{proposal_reason, question_reason};
 use log_committer::ReceiveRefusal;
 use log_orderer::Skip;
 use log_peer::StoreRefusal;
+use peer_answers::{Answer, CallRefusal, Request, number_in};
 use std::alloc::{AllocError, Global};
 use store_replay::RecommitRefusal;
 

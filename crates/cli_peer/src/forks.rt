@@ -2,7 +2,7 @@
 
 ghost use Rattle.std.specs.Prelude.{◌≡◌, [], IfErr, IfOk, OnErr, OnOk, option_map, if◌then◌else◌};
 ghost use Rattle.cli_lines.specs.Told.{IsBrokenOff, Prints, PrintsNothing, Tells};
-ghost use Rattle.cli_peer.specs.Seen.{forked_text, has_hash};
+ghost use Rattle.peer_answers.specs.Seen.{forked_text, has_hash};
 
 use cli_lines::{Failure, Printer};
 use fab_types::CommittedBlock;

@@ -7,32 +7,22 @@
 //! of the log before it made of them, and by nothing else. What stands behind the last line's end
 //! is not read: it may be a part of a line.
 //!
-//! The state of it is [`LogPeer`](log_peer::LogPeer) of `log_peer`. Questions and answers are
-//! those of `json_questions`.
+//! The state of it is [`LogPeer`](log_peer::LogPeer) of `log_peer`. What it answers is what
+//! `peer_answers` says.
 #![tactic(auto)]
 
 mod aborted;
-mod ahead;
-mod answer;
-mod answering;
 mod explaining;
 mod filter;
 mod forks;
 mod input;
 mod joined;
 mod laws;
-mod line;
-mod log_genesis;
 mod logged;
 mod marks;
-mod numbers;
 mod opening;
 mod peering;
-mod place;
 mod round;
-mod seen;
-mod words;
 
-pub use laws::{a_line_has_one_answer, seen_is_no_payload, what_is_endorsed_is_right};
-pub use log_genesis::LogGenesis;
+pub use laws::a_line_has_one_answer;
 pub use peering::{Peering, peer};

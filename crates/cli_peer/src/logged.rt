@@ -9,19 +9,19 @@ ghost use Rattle.log_peer.specs.Peering.{held_by};
 ghost use Rattle.cli_peer.specs.Filters.{PrintsSo};
 ghost use Rattle.cli_peer.specs.Logged.{TellsEntry, TellsReport, TellsText, batch_text, block_text};
 ghost use Rattle.cli_peer.specs.Printed.{joined_text};
-ghost use Rattle.cli_peer.specs.Seen.{IsUnsigned, TellsFork, is_fork, sighting_of};
+ghost use Rattle.peer_answers.specs.Seen.{IsUnsigned, TellsFork, is_fork, sighting_of};
 
 use crate::aborted::print_aborted;
 use crate::explaining::explain_skip;
 use crate::forks::{has_hash, print_unless};
 use crate::joined::print_joined;
-use crate::line::Entry;
-use crate::log_genesis::LogGenesis;
-use crate::seen::{Seen, SignedSeen, has_public_key, is_signed, seen_in, signed_seen_in};
 use cli_lines::{Failure, Files, Printer};
 use endorsement_policy::Standing;
 use log_committer::Received;
 use log_peer::{LogPeer, PeerBatch, PeerReport};
+use peer_answers::{
+    Entry, LogGenesis, Seen, SignedSeen, has_public_key, is_signed, seen_in, signed_seen_in,
+};
 use std::alloc::{AllocError, Global};
 use std::io::Write;
 use store_devices::StoreFile;

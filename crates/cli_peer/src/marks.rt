@@ -4,20 +4,9 @@ ghost use Rattle.std.specs.Prelude.{◌≡◌, ◌↔◌, ℕ, List, IsTrue};
 ghost use Rattle.orderer.specs.Ordering.{Ordering};
 ghost use Rattle.log_orderer.specs.Skipped.{IsSkippedBy};
 ghost use Rattle.cli_peer.specs.Marks.{IsMarkOrNone, NamesAnotherIn};
-ghost use Rattle.cli_peer.specs.Parts.{behind_first, first_word};
 
-use crate::seen::seen_in;
 use log_orderer::Skip;
-
-/// The first word of a text, and what stands behind it and a space: nothing where there is none.
-pub(crate) fn parted(text: &str) -> (&str, &str)
-    ensures { (result.0.now ≡ first_word text.now) × (result.1.now ≡ behind_first text.now) }
-{
-    match text.split_once(' ') {
-        Some(parts) => parts,
-        None => (text, ""),
-    }
-}
+use peer_answers::seen_in;
 
 /// Whether a text names the file of a genesis by its digest, and another one than this.
 pub(crate) fn names_another_genesis(text: &str, digest: &str) -> bool

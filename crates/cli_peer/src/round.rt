@@ -4,18 +4,17 @@ ghost use Rattle.std.specs.Prelude.{◌≡◌, ◌<◌, ◌≤◌, ◌∷◌, �
 ghost use Rattle.std.specs.Prelude.{false, option_map, true};
 ghost use Rattle.cli_lines.specs.Told.{IsBrokenOff, Prints, PrintsPart, Tells, Told};
 ghost use Rattle.ledger_model.specs.Chain.{Chain};
-ghost use Rattle.cli_peer.specs.Answering.{Peer};
+ghost use Rattle.peer_answers.specs.Answering.{Peer};
 ghost use Rattle.cli_peer.specs.Input.{IsNext, is_at_hand};
-ghost use Rattle.cli_peer.specs.Rounds.{AreKnown, IsFilled, IsKnown, IsRound, ReadsBehind, input_of};
-ghost use Rattle.cli_peer.specs.Setting.{peer_of};
+ghost use Rattle.cli_peer.specs.Rounds.{AreKnown, IsFilled, IsRound, ReadsBehind, input_of};
+ghost use Rattle.peer_answers.specs.Known.{IsKnown};
+ghost use Rattle.peer_answers.specs.Setting.{peer_of};
 
-use crate::ahead::answer_each;
-use crate::answer::Answer;
-use crate::answering::Answering;
 use crate::filter::next_line;
 use crate::input::InputLines;
 use cli_lines::{Failure, Files, Printer};
 use endorsement_policy::Workers;
+use peer_answers::{Answer, Answering, answer_each};
 use std::alloc::{AllocError, Global};
 use std::collections::VecDeque;
 use std::io::{Read, Write};

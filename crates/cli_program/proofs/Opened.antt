@@ -10,7 +10,7 @@ use Rattle.cli_lines.specs.Opening.{AreNoModules}
 use Rattle.cli_lines.specs.Places.{FilesHeld}
 use Rattle.cli_lines.specs.Sealing.{HasSeeds, IsNoKeyFile}
 use Rattle.cli_lines.specs.declared.failure.Failure.{Failure}
-use Rattle.cli_peer.specs.declared.log_genesis.LogGenesis.{LogGenesis}
+use Rattle.peer_answers.specs.declared.log_genesis.LogGenesis.{LogGenesis}
 use Rattle.cli_words.specs.declared.task.Beginning.{Beginning}
 use Rattle.cli_program.specs.Opening.{FileHeld, HasKeys, IsOpened, IsNotOpened, Signs, SpellsWith}
 

@@ -4,7 +4,7 @@ use Rattle.std.proofs.Common.{◌≡◌, ◌∙◌, ℕ, List, Bool, true, false
 use Rattle.cli_lines.specs.Told.{Told, Answers, BreaksOff}
 use Rattle.cli_lines.specs.declared.failure.Failure.{Failure}
 use Rattle.cli_lines.specs.declared.failure.Failure.TheVariants as failure
-use Rattle.cli_peer.specs.declared.log_genesis.LogGenesis.{LogGenesis}
+use Rattle.peer_answers.specs.declared.log_genesis.LogGenesis.{LogGenesis}
 use Rattle.cli_words.specs.declared.task.Task.{Task}
 use Rattle.cli_words.specs.declared.task.Task.TheVariants as task
 use Rattle.cli_words.specs.declared.task.Work.{Work}

@@ -11,7 +11,7 @@ use Rattle.cli_lines.specs.Told.{IsBrokenOff, IsHeld}
 use Rattle.cli_lines.specs.Sealing.{HasSeeds, IsNoKeyFile}
 use Rattle.cli_lines.specs.Opening.{AreNoModules, IsNoGenesis}
 use Rattle.cli_lines.specs.declared.failure.Failure.{Failure}
-use Rattle.cli_peer.specs.declared.log_genesis.LogGenesis.{LogGenesis}
+use Rattle.peer_answers.specs.declared.log_genesis.LogGenesis.{LogGenesis}
 use Rattle.cli_words.specs.declared.task.Beginning.{Beginning}
 
 -- what is known of a file, where one is named

@@ -11,8 +11,8 @@ use Rattle.cli_words.specs.declared.task.Task.{Task}
 use Rattle.cli_words.specs.declared.task.Task.TheVariants as task
 use Rattle.cli_words.specs.declared.task.Work.{Work}
 use Rattle.cli_words.specs.declared.task.Work.TheVariants as work
-use Rattle.cli_peer.specs.declared.log_genesis.LogGenesis.{LogGenesis}
-use Rattle.cli_peer.specs.Answering.{Peer}
+use Rattle.peer_answers.specs.declared.log_genesis.LogGenesis.{LogGenesis}
+use Rattle.peer_answers.specs.Answering.{Peer}
 use Rattle.cli_peer.specs.Keeping.{HoldsReached, KeepsTold}
 use Rattle.cli_peer.specs.Peering.{Peers, PeersBegin}
 use Rattle.cli_show.specs.Modules.{Checks, Digests}

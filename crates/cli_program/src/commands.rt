@@ -15,7 +15,7 @@ use crate::public::public;
 use crate::threading::threads;
 use crate::verdict::answer_of;
 use cli_lines::{Failure, Files, Location, Printer, explain_failure};
-use cli_peer::{LogGenesis, Peering, peer};
+use cli_peer::{Peering, peer};
 use cli_session::{RunFiles, run};
 use cli_show::{
     Asked, Part, Shown, Simulated, Span, audit, check, digest, marks, show, simulate, state, trace,
@@ -24,6 +24,7 @@ use cli_show::{
 use cli_words::{Beginning, StatePart, Task, Usage, WordsFault, Work, parse, words_reason};
 use endorsement_policy::Workers;
 use ledger_setting::Genesis;
+use peer_answers::LogGenesis;
 use std::alloc::Global;
 use std::io::Write;
 use std::sync::Wait;

@@ -12,11 +12,11 @@ use cli_lines::{
     Failure, FileFault, Files, Location, explain, explain_read, genesis_holding, genesis_in,
     modules_in, read_all, read_all_explained, signers_in,
 };
-use cli_peer::LogGenesis;
 use cli_words::Beginning;
 use json_reasons::{genesis_reason, modules_reason};
 use ledger_setting::Genesis;
 use org_keys::Signers;
+use peer_answers::LogGenesis;
 use sha2::{Digest, Sha256};
 use std::alloc::Global;
 use std::sync::Arc;

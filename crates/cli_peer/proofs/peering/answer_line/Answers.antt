@@ -4,7 +4,7 @@ use Rattle.std.specs.Str.{IsUtf8}
 use Rattle.ledger_model.specs.Chain.{Bytes}
 use Rattle.log_peer.specs.Peering.{held_by}
 use Rattle.cli_peer.specs.Peering.{DoesAsked, bad_text}
-use Rattle.cli_peer.specs.Setting.{peer_of}
+use Rattle.peer_answers.specs.Setting.{peer_of}
 use Rattle.cli_peer.proofs.Filters.{prints_so}
 use Rattle.cli_peer.proofs.peering.answer_line.Goals as goal
 

@@ -8,7 +8,7 @@ use Rattle.cli_peer.specs.Logged.{Reached}
 use Rattle.cli_peer.specs.Peering.{DoesLine, EndsLine}
 use Rattle.cli_peer.specs.Rounds.{input_of, left_behind}
 use Rattle.cli_peer.specs.Running.{reached}
-use Rattle.cli_peer.specs.Setting.{peer_of}
+use Rattle.peer_answers.specs.Setting.{peer_of}
 use Rattle.cli_peer.proofs.Filters.{HasDone, all_done, done_kept, line_ended, line_told, lines_told, none_done, one_done, tells_then}
 use Rattle.cli_peer.proofs.Keeping.{Starts, all_lead, line_starts, starts_same, starts_then, stores_none, stores_read, stores_then}
 use Rattle.cli_peer.proofs.peering.do_lines.Goals as goal

@@ -5,7 +5,7 @@ use Rattle.cli_peer.specs.Keeping.{StoresOn}
 use Rattle.cli_peer.specs.Peering.{DoesLine}
 use Rattle.cli_peer.specs.Rounds.{IsRound, left_behind}
 use Rattle.cli_peer.specs.Running.{IsReader, reached}
-use Rattle.cli_peer.specs.Setting.{peer_of}
+use Rattle.peer_answers.specs.Setting.{peer_of}
 use Rattle.cli_peer.proofs.Filters.{HasDone}
 use Rattle.cli_peer.proofs.peering.do_lines.Given as goal
 

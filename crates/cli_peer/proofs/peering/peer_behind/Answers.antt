@@ -6,7 +6,7 @@ use Rattle.cli_peer.specs.Opening.{ComesBehind, opened_text}
 use Rattle.cli_peer.specs.Keeping.{TellsLines}
 use Rattle.cli_peer.specs.Peering.{DoesLine, EndsLine, PeersLines}
 use Rattle.cli_peer.specs.Running.{reached}
-use Rattle.cli_peer.specs.Setting.{peer_of}
+use Rattle.peer_answers.specs.Setting.{peer_of}
 use Rattle.cli_peer.proofs.Filters.{none_begun, start_behind, start_front, tells_behind}
 use Rattle.cli_peer.proofs.Keeping.{starts_old, starts_same, stores_none}
 use Rattle.cli_peer.proofs.peering.peer_behind.Goals as goal

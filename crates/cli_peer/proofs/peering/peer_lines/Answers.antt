@@ -8,7 +8,7 @@ use Rattle.cli_peer.specs.Keeping.{LeadTo, TellsLines}
 use Rattle.cli_peer.specs.Peering.{PeersLines}
 use Rattle.cli_peer.specs.Rounds.{left_behind}
 use Rattle.cli_peer.specs.Running.{reached}
-use Rattle.cli_peer.specs.Setting.{peer_of}
+use Rattle.peer_answers.specs.Setting.{peer_of}
 use Rattle.cli_peer.proofs.Rounds.{left_none}
 use Rattle.cli_peer.proofs.peering.peer_lines.Goals as goal
 

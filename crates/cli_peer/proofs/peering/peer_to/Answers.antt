@@ -13,7 +13,7 @@ use Rattle.cli_peer.specs.Opening.{ComesBehind, TellsUnopened}
 use Rattle.cli_peer.specs.Peering.{LinesTo, Peers, PeersBegin, PeersLines, opened}
 use Rattle.cli_peer.specs.Logged.{Reached}
 use Rattle.cli_peer.specs.Running.{reached}
-use Rattle.cli_peer.specs.Setting.{peer_of}
+use Rattle.peer_answers.specs.Setting.{peer_of}
 use Rattle.cli_peer.specs.declared.peering.Reader.{Reader}
 use Rattle.cli_peer.proofs.Filters.{ended_by, start_ended}
 use Rattle.cli_peer.proofs.Keeping.{closed_holds, closed_keeps, closed_told, held_then, peer_begins, unopened_told}

@@ -5,10 +5,10 @@ use Rattle.cli_lines.proofs.Printing.{nothing_same, printed_on_ok, prints_none}
 use Rattle.log_peer.specs.Peering.{held_by}
 use Rattle.cli_peer.specs.Filters.{ComesTo, DoesOrEnds}
 use Rattle.cli_peer.specs.Keeping.{HoldsChain, TellsLine}
-use Rattle.cli_peer.specs.Lines.{Asks, Logs, Said, said_in}
+use Rattle.peer_answers.specs.Lines.{Asks, Logs, Said, said_in}
 use Rattle.cli_peer.specs.Peering.{DoesAsked, DoesSaid, EndsSaid, bad_text}
 use Rattle.cli_peer.specs.Running.{reached}
-use Rattle.cli_peer.specs.Setting.{peer_of}
+use Rattle.peer_answers.specs.Setting.{peer_of}
 use Rattle.cli_peer.proofs.Filters.{done_by, done_so, so_behind, start_so, start_text}
 use Rattle.cli_peer.proofs.Keeping.{stores_none}
 use Rattle.cli_peer.proofs.Rounds.{round_forgotten}

@@ -3,8 +3,8 @@ use Rattle.std.specs.Prelude.{not, if◌then◌else◌}
 use Rattle.std.specs.Str.Lossy.{utf8_lossy}
 use Rattle.log_peer.specs.Peering.{held_by}
 use Rattle.cli_lines.proofs.Printing.{prints_none}
-use Rattle.cli_peer.specs.Seen.{TellsFork, fork_text, forked_text, is_fork}
-use Rattle.cli_peer.specs.declared.seen.SignedSeen.{SignedSeen}
+use Rattle.peer_answers.specs.Seen.{TellsFork, fork_text, forked_text, is_fork}
+use Rattle.peer_answers.specs.declared.seen.SignedSeen.{SignedSeen}
 use Rattle.cli_peer.proofs.Filters.{prints_so}
 use Rattle.cli_peer.proofs.logged.Telling.print_signed.Goals as goal
 

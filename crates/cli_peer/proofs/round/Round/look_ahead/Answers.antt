@@ -1,7 +1,7 @@
 use Rattle.std.proofs.Common.{List, Option, refl, subst, sym}
 use Rattle.cli_peer.specs.Rounds.{AreKnown}
-use Rattle.cli_peer.specs.Setting.{peer_of}
-use Rattle.cli_peer.specs.declared.answer.Answer.{Answer}
+use Rattle.peer_answers.specs.Setting.{peer_of}
+use Rattle.peer_answers.specs.declared.answer.Answer.{Answer}
 use Rattle.cli_peer.proofs.Rounds.{known_run}
 use Rattle.cli_peer.proofs.round.Round.look_ahead.Goals as goal
 

@@ -1,7 +1,7 @@
 use Rattle.std.proofs.Common.{◌≡◌, ◌∙◌, ◌∷◌, Bool, sym, subst}
 use Rattle.cli_peer.specs.Input.{IsNext}
 use Rattle.cli_peer.specs.Rounds.{IsFilled, input_of}
-use Rattle.cli_peer.specs.Setting.{peer_of}
+use Rattle.peer_answers.specs.Setting.{peer_of}
 use Rattle.cli_peer.proofs.Rounds.{known_on, next_on, rest_on}
 use Rattle.cli_peer.proofs.round.Round.next.Goals as goal
 

@@ -1,5 +1,0 @@
-use Rattle.cli_peer.proofs.Rights.{endorsed_right}
-use Rattle.cli_peer.proofs.laws.what_is_endorsed_is_right.Goals as goal
-
-pub returns : goal.returns
-returns c = endorsed_right c.what_is_sealed_is_right.ensures

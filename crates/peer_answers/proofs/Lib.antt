@@ -1,0 +1,4 @@
+pub mod Numerals
+pub mod Rights
+pub mod Known
+pub mod Sharing

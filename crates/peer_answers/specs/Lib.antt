@@ -1,0 +1,12 @@
+pub mod Words
+pub mod Parts
+pub mod Seen
+pub mod Numbers
+pub mod Lines
+pub mod Placing
+pub mod Calls
+pub mod Answering
+pub mod Spoken
+pub mod Setting
+pub mod Spelled
+pub mod Known
