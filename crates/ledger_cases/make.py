@@ -10,12 +10,11 @@ import pathlib
 import sys
 from collections.abc import Callable
 
-import editions
-
 HERE = pathlib.Path(__file__).parent
-sys.path[:0] = [str(HERE.resolve().parents[1] / "node"), str(HERE.resolve().parents[1] / "python")]
+sys.path[:0] = [str(HERE.resolve().parents[1] / it) for it in ("node", "python", "test")]
+import editions
 import rfc8032
-from regtuma.wire import Amendment, Definition, Member, Membership, Payload, Upgrade
+from regtuma.wire import Amendment, Call, Definition, Member, Membership, Payload, Read, Upgrade, Write
 
 FIRST = "# wire: open definitions"
 
@@ -24,8 +23,9 @@ Row = tuple[str, str]
 M2 = "4146715e99eba415ef0805fd0978db6de1a469951cd8ea428eb534c835b0327e"
 B_KEY = "d75a980182b10ab7d54bfed3c964073a0ee172f3daa62325af021a68f707511a"
 # The public keys of the seeds that are a name with zeros behind it.
-SEEDED = {"B": "ccbc3da2c4267cc8553be0c7b5790cc75a121297528462c3d2cc679d16eb8684",
-          "C": "6f7e716f4d2c8f14cd26c027c167610cfffefa9c61aa045006e299be8b98487f"}
+SEEDED = {"B": bytes.fromhex("ccbc3da2c4267cc8553be0c7b5790cc75a121297528462c3d2cc679d16eb8684"),
+          "C": bytes.fromhex("6f7e716f4d2c8f14cd26c027c167610cfffefa9c61aa045006e299be8b98487f")}
+OWNERS = {public: name for name, public in SEEDED.items()}
 NONCE = "000102030405060708090a0b0c0d0e0f"
 NO_NONCE = bytes(16)
 UPGRADED, AMENDED = b"\0kv", b"\0"
@@ -132,7 +132,7 @@ def endorsements() -> list[Row]:
 
     def members(words: str) -> list[Member]:
         split = [word.partition("!") for word in words.split("+")]
-        return [Member(name, bytes.fromhex(SEEDED[seed]) if seed else None) for name, _, seed in split]
+        return [Member(name, SEEDED[seed] if seed else None) for name, _, seed in split]
 
     def amended(serial: int, words: str, policy: str, seen: str = "-") -> str:
         return f"a:{serial},{words},{policy} {put(AMENDED, Membership(serial, members(words), policy), seen)}"
@@ -310,30 +310,27 @@ def signed_for(signer: str, ledger: bytes, data: bytes) -> str:
 
 
 def bound_bytes() -> list[Row]:
-    call = short(b"kv") + long(b"") + NO_NONCE
-    wrote = call + bytes(2) + b"\0\1" + short(UPGRADED) + b"\0" + bytes(2) + b"\0\1" + short(b"a") + b"\1" + long(b"1")
+    call = Call("kv", b"", NO_NONCE)
+    wrote = Payload(call, reads=[Read(UPGRADED, None)], writes=[Write(b"a", b"1")]).encode()
     ledgers = [bytes([7]) * 32, bytes(range(32)), bytes(32)]
-    texts = [b"", b"\xff", call, wrote, b"\xfftag " + ledgers[0] + wrote]
+    texts = [b"", b"\xff", call.encode(), wrote, b"\xfftag " + ledgers[0] + wrote]
     return [(f"bound B {it.hex()} {data.hex()}".rstrip(), signed_for("B", it, data)) for it in ledgers for data in texts]
 
 
 def bound_tags() -> list[Row]:
     """Tags under rules 2, and under rules 1: those of one kind are wrong under the other."""
     both = "AND('A','B')"
-    upgraded = f"u:7,71,'B' {put(UPGRADED, definition(1, bytes([7]) * 32, 71, QB))}"
+    upgraded = f"u:7,71,'B' {put(UPGRADED, Definition(1, bytes([7]) * 32, 71, QB))}"
 
-    def stands(*members: bytes) -> str:
-        return f"r:0x006b76@- / w:0x00=0x{membership(1, list(members), both).hex()}"
+    def stands(*members: Member) -> str:
+        return f"r:0x006b76@- / w:0x00=0x{Membership(1, members, both).encode().hex()}"
 
-    def amended(*members: bytes) -> str:
-        shown = "+".join(f"{it[1:2].decode()}{'!' + name if name else ''}" for it, name in ((it, owner(it)) for it in members))
-        return f"a:1,{shown},'A' {put(AMENDED, membership(1, list(members), QA))}"
+    def amended(*members: Member) -> str:
+        shown = "+".join(f"{it.name}!{OWNERS[it.public]}" if it.public else it.name for it in members)
+        return f"a:1,{shown},'A' {put(AMENDED, Membership(1, members, QA))}"
 
-    def owner(it: bytes) -> str:
-        return next((name for name, public in SEEDED.items() if it.endswith(bytes.fromhex(public))), "")
-
-    own_a, kept_b = member("A", SEEDED["C"]), member("B")
-    taken, own_b = member("A", SEEDED["B"]), member("B", SEEDED["C"])
+    own_a, kept_b = Member("A", SEEDED["C"]), Member("B")
+    taken, own_b = Member("A", SEEDED["B"]), Member("B", SEEDED["C"])
     second = [
         ("A,B! B@B 'B'", True),
         ("A,B! B!B 'B'", False),

@@ -572,7 +572,8 @@ def front(ledger):
 
 def both_tagged(data, signed, seed=SEEDS[0]):
     """A payload with A's tag, and B's signature of these bytes."""
-    return data + b"\2" + tag_of("A", hmac.digest(KEYS["A"], data, "sha256")) + tag_of("B", rfc8032.sign(seed, signed))
+    tags = [wire.Endorsement("A", hmac.digest(KEYS["A"], data, "sha256")), wire.Endorsement("B", rfc8032.sign(seed, signed))]
+    return wire.Envelope(data, tags).encode()
 
 
 datas = [call(nonce, writes=puts(b"kv/a")) for nonce in range(1, 6)]
@@ -580,8 +581,7 @@ fronts = [front("bound.json"), b"", front("signed.json"), b"\xfftag " + bytes(32
 bounds = [both_tagged(data, it + data, SEEDS[at == 4]) for at, (data, it) in enumerate(zip(datas, fronts))]
 write("bound.log", log([it.hex() for it in bounds]))
 (HERE / "bound.store").write_bytes(record(1, NO_LINK, one=bounds[0])[0])
-own, other = (hashlib.sha256((HERE / name).read_bytes()).digest() for name in ("bound.json", "signed.json"))
-said = [b"\xffseen " + it + struct.pack(">I", 1) + LIE for it in (own, other)]
+said = [b"\xffseen " + hashlib.sha256((HERE / it).read_bytes()).digest() + (1).to_bytes(4, "big") + LIE for it in ("bound.json", "signed.json")]
 signs = [fronts[0] + said[0], said[0], fronts[2] + said[0], fronts[2] + said[1]]
 write("bound-seen.log", log([bounds[0].hex(), *(f"seen B 1 {LIE.hex()} {rfc8032.sign(SEEDS[0], it).hex()}" for it in signs)]))
 write("bound.lines", asking(("call", calls[0]), ("seen", "1")))
