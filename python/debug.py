@@ -16,7 +16,7 @@ from typing import Any, NamedTuple
 
 from commands import Call, Given, Misuse, argument, modules
 from debug_lines import bytes_of, call_lines, moment_lines, stack_lines
-from fabric_host import Entry, Fabric
+from fabric_host import Entry, Fabric, namespace_of
 from membership import Ledger
 from network import CHAINCODES, OPEN, quoted
 from outcome import shown
@@ -129,9 +129,10 @@ def tell_more(found: Given, program: str, line: str) -> None:
 
 
 class Definition(NamedTuple):
-    """What a call runs, and on how much fuel; and the entry of the state that says so, if there is one."""
+    """What a call runs, on how much fuel and under which rules; and the entry of the state that says so, if there is one."""
     module: bytes
     fuel: int
+    rules: int
     entry: Entry | None
 
 
@@ -146,14 +147,15 @@ def definition_of(call: Call, state: State) -> Definition:
 def definition_in(call: Call, entry: Entry | None) -> Definition:
     """The definition by the entry of the state, else that of the genesis file."""
     genesis = json.loads(pathlib.Path(call.genesis).read_bytes())
+    rules = genesis.get("rules", 1)
     if entry is None:
         own = next(it for it in genesis["chaincodes"] if it["name"] == call.chaincode)
-        return Definition(bytes.fromhex(own["module"]), own["fuel"], None)
+        return Definition(bytes.fromhex(own["module"]), own["fuel"], rules, None)
     held = [it for file in call.modules[1:] for it in json.loads(pathlib.Path(file).read_bytes())]
     at_hand = [(bytes.fromhex(it["module"]), it["profile"]) for it in [*genesis["chaincodes"], *genesis["modules"], *held]]
     stands = wire.Definition.decode(entry.value)
     module = next(it for it, profile in at_hand if profile == stands.profile % OPEN and hashlib.sha256(it).digest() == stands.module)
-    return Definition(module, stands.fuel, entry)
+    return Definition(module, stands.fuel, rules, entry)
 
 
 # ---------------------------------------------------------------- the run
@@ -166,7 +168,7 @@ class Run:
         definition = definition_of(call, state)
         self.key, self.entry, self.given = b"\0" + call.chaincode.encode(), definition.entry, definition.fuel
         self.begun = min(self.given, most)
-        self.fabric = Fabric(state, bytes.fromhex(call.arg))
+        self.fabric = Fabric(state, bytes.fromhex(call.arg), namespace_of(call.chaincode, definition.rules))
         self.machine = Machine(Module(definition.module), self.fabric, self.begun, last)
         # How it ended: the refusal as the program tells it, empty where it is none, and words for people.
         self.refusal, self.end = "", "returned status 0"

@@ -36,10 +36,10 @@ class State(Protocol):
 
 
 class Fabric:
-    """The calls of one run, and what they recorded."""
+    """The calls of one run, and what they recorded. What is written has to be in the namespace: each key begins with it."""
 
-    def __init__(self, state: State, argument: bytes):
-        self.state, self.argument, self.result = state, argument, b""
+    def __init__(self, state: State, argument: bytes, namespace: bytes = b""):
+        self.state, self.argument, self.namespace, self.result = state, argument, namespace, b""
         self.reads: dict[bytes, Entry | None] = {}
         self.ranges: list[Range] = []
         self.writes: dict[bytes, bytes | None] = {}
@@ -73,7 +73,7 @@ class Fabric:
 
     def record(self, key: bytes, value: bytes | None) -> int:
         """Records a write."""
-        if not is_key(key):
+        if not is_key(key) or not key.startswith(self.namespace):
             return BAD_KEY
         if value is not None and len(value) > LONGEST_VALUE:
             return BAD_LENGTH
@@ -115,6 +115,11 @@ CALLS: dict[str, Callable[[Fabric, Call, list[int], Memory], int]] = {
     "get_state": Fabric.get_state, "put_state": Fabric.put_state, "del_state": Fabric.del_state,
     "range_state": Fabric.range_state, "get_arg": Fabric.get_arg, "set_result": Fabric.set_result,
 }
+
+
+def namespace_of(chaincode: str, rules: int) -> bytes:
+    """What each key begins with that a chaincode may write: nothing under rules 1, its name and `/` under rules 2."""
+    return b"" if rules == 1 else f"{chaincode}/".encode()
 
 
 def is_key(key: bytes) -> bool:

@@ -24,7 +24,9 @@ WRONG = [
 COMPLETED = [("ledger ca", "call"), ("ledger call --dr", "--dry-run"), ("ledger help au", "audit"), ("ledger call d", ""),
              ("ledger state --m", "--members")]
 COMPLETE = '. ./completed; COMP_WORDS=($1); COMP_CWORD=$((${#COMP_WORDS[@]} - 1)); _ledger; echo "${COMPREPLY[@]}"'
-NETWORK = """upgrade = "'A'"
+# Under rules 1, by which the module writes a key that does not begin with the chaincode's name.
+NETWORK = """rules = 1
+upgrade = "'A'"
 [orgs]
 A.key = "4a"
 [chaincodes.kv]

@@ -163,11 +163,11 @@ def try_calls(report: Report, tree: pathlib.Path, room: pathlib.Path, env: dict[
 def try_lines(at: Calls) -> None:
     """What a call prints, to the letter, and what a dry run does."""
     ran = at.call("net", "assets", "create", "pallet-7", "Maker", "--dry-run")
-    is_so = ran.status == 0 and ran.out == "write asset/pallet-7 put Maker\n" and "the empty state" in ran.err
+    is_so = ran.status == 0 and ran.out == "write assets/asset/pallet-7 put Maker\n" and "the empty state" in ran.err
     at.case("a dry run on no store", is_so and not (at.room / "net/chain.store").exists(), ran)
     ran = at.call("net", "assets", "create", "pallet-7", "Maker")
     first, last = (ran.out.splitlines() + ["", ""])[:2]
-    is_so = first == "write asset/pallet-7 put Maker" and last.startswith("VALID in block 1, tx ") and len(last) == 85
+    is_so = first == "write assets/asset/pallet-7 put Maker" and last.startswith("VALID in block 1, tx ") and len(last) == 85
     at.case("the first call", is_so and ran.status == 0 and ran.out.count("\n") == 2 and "is a new store" in ran.err, ran)
     ran = at.call("net", "assets", "create", "pallet-8", "Maker")
     at.case("the second one: nothing else is told", ran.out.endswith("\n") and not ran.err, ran)
@@ -176,11 +176,11 @@ def try_lines(at: Calls) -> None:
     ran = at.call("net", "assets", "--hex", b"list".hex(), "--dry-run")
     at.case("a result in hex", ran.out == f"result {b'pallet-7 Maker'.hex()}0a{b'pallet-8 Maker'.hex()}0a\n", ran)
     ran = at.call("net", "assets", "--hex", b"create \xff y".hex(), "--dry-run")
-    at.case("a write in hex", ran.out == f"write {b'asset/'.hex()}ff put 79\n", ran)
+    at.case("a write in hex", ran.out == f"write {b'assets/asset/'.hex()}ff put 79\n", ran)
     ran = at.call("net", "assets", "create", "\u202e", "0x", "--dry-run")
-    at.case("what is no plain text is in hex", ran.out == f"write 0x{b'asset/'.hex()}e280ae put 0x3078\n", ran)
+    at.case("what is no plain text is in hex", ran.out == f"write 0x{b'assets/asset/'.hex()}e280ae put 0x3078\n", ran)
     ran = at.call("net", "assets", "delete", "pallet-8", "--orgs", "Shop,Maker")
-    at.case("those who are named endorse", ran.out.startswith("write asset/pallet-8 delete\nVALID in block 3, tx "), ran)
+    at.case("those who are named endorse", ran.out.startswith("write assets/asset/pallet-8 delete\nVALID in block 3, tx "), ran)
     ran = at.call("net", "assets", "delete", "pallet-7", "--orgs", "Maker")
     is_so = ran.status == 1 and ran.out.startswith("ENDORSEMENT_POLICY_FAILURE in block 4, tx ") and ran.out.count("\n") == 1
     at.case("too few endorse", is_so and "(flag 1)" in ran.err, ran)

@@ -163,8 +163,8 @@ def try_stores(at: Debugging) -> None:
     with at.asking(genesis, str(at.at / "assets.store")) as state:
         for argument in (*ARGUMENTS, "read pallet-7", "transfer pallet-7 Shop", "inspect pallet-9 2027-01-01"):
             at.agree(state, at.asked(genesis, "assets", argument))
-    for argument, get in (("read pallet-7", '("asset/pallet-7") = 7 "Carrier"'),
-                          (f"--hex {b'read pallet-7'.hex()}", f"(0x{b'asset/pallet-7'.hex()}) = 7 0x{b'Carrier'.hex()}")):
+    for argument, get in (("read pallet-7", '("assets/asset/pallet-7") = 7 "Carrier"'),
+                          (f"--hex {b'read pallet-7'.hex()}", f"(0x{b'assets/asset/pallet-7'.hex()}) = 7 0x{b'Carrier'.hex()}")):
         ran = at.ledger("debug", genesis, "assets", *argument.split(), "--store", "assets.store")
         at.report.case(f"debug {argument}", ran.status == 0 and f"\n  get_state{get}\n" in ran.out, ran.out + ran.err)
     for file in [*cases.glob("open*"), *cases.glob("modules*")]:

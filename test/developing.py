@@ -31,7 +31,7 @@ class Developing:
         """The folder, with a chain of a block."""
         ran = self.run("./ledger", "new", self.folder)
         self.report.case("a folder", ran.status == 0, ran.err)
-        self.calls("create", "pallet-1", "Maker", begins="write asset/pallet-1 put Maker\nVALID in block 1, tx ")
+        self.calls("create", "pallet-1", "Maker", begins="write assets/asset/pallet-1 put Maker\nVALID in block 1, tx ")
 
     # ------------------------------------------------ what is there
 
@@ -130,12 +130,12 @@ def develop(at: Developing, typist: Typist, blocks: list[Block]) -> None:
     report.case("Ctrl-C ends the network with status 0", is_told, f"{running.returncode}\n{out}{err}")
     at.nothing_is_left("Ctrl-C")
     at.stores_are_equal("Ctrl-C", 7)
-    at.calls("delete", "pallet-1", begins="write asset/pallet-1 delete\nVALID in block 8, tx ")
+    at.calls("delete", "pallet-1", begins="write assets/asset/pallet-1 delete\nVALID in block 8, tx ")
 
 
 def call_meanwhile(at: Developing) -> None:
     """`ledger call` asks the node, and prints what it prints where none runs: the same lines, numbers and sentences."""
-    first = at.calls("create", "pallet-2", "Maker", "--nonce", NONCE, begins="write asset/pallet-2 put Maker\nVALID in block 4, tx ")
+    first = at.calls("create", "pallet-2", "Maker", "--nonce", NONCE, begins="write assets/asset/pallet-2 put Maker\nVALID in block 4, tx ")
     again = at.calls("create", "pallet-2", "Maker", "--nonce", NONCE, begins=first.out, told="stands in block 4 already")
     at.report.case("a nonce that was used", again.out == first.out, again.out)
     at.calls("read", "pallet-2", "--dry-run", begins="result Maker\n")

@@ -14,11 +14,11 @@ SANITIZERS = "-fsanitize=address,undefined"
 # Calls of a deal, one behind the other, and what is printed of each.
 CALLS = [
     ("pay d1", "refused 404 status 3\n"),
-    ("open d1 Anna Ben 100", "write deal/d1 put open Anna Ben 100\nVALID in block 1, tx ..\n"),
+    ("open d1 Anna Ben 100", "write escrow/deal/d1 put open Anna Ben 100\nVALID in block 1, tx ..\n"),
     ("open d1 Anna Ben 100", "refused 404 status 2\n"),
-    ("pay d1", "write deal/d1 put paid Anna Ben 100\nVALID in block 2, tx ..\n"),
+    ("pay d1", "write escrow/deal/d1 put paid Anna Ben 100\nVALID in block 2, tx ..\n"),
     ("show d1 --dry-run", "result paid Anna Ben 100\n"),
-    ("release d1", "write deal/d1 put done Anna Ben 100\nVALID in block 3, tx ..\n"),
+    ("release d1", "write escrow/deal/d1 put done Anna Ben 100\nVALID in block 3, tx ..\n"),
     ("refund d1", "refused 404 status 4\n"),
     ("refund", "refused 404 status 1\n"),
 ]
@@ -91,6 +91,34 @@ FABRIC_INVOKE {
     return set_result("done", 4);
 }
 """
+# A chaincode that asks what it may write.
+OWN = """
+#define CHAINCODE "own"
+#include "fabric.h"
+#define IS(call, wanted) if ((call) != (wanted)) return __LINE__
+static char big[4097];
+FABRIC_INVOKE {
+    IS(put_state("x", 1, "", 0), FABRIC_KEY_LENGTH);
+    IS(put_state("own", 3, "", 0), FABRIC_KEY_LENGTH);
+    IS(put_state("own2/x", 6, big, 4097), FABRIC_KEY_LENGTH);
+    IS(del_state("own2/x", 6), FABRIC_KEY_LENGTH);
+    IS(del_state("", 0), FABRIC_KEY_LENGTH);
+    IS(get_state("own2/x", 6, 0, 0) < FABRIC_ABSENT, 0);
+    IS(put_state(OWN_KEY("x"), 5, big, 4097), FABRIC_VALUE_LENGTH);
+    IS(put_state(OWN_KEY("x"), 5, "1", 1), 0);
+    IS(put_state("own/", 4, "1", 1), 0);
+    return del_state(OWN_KEY("y"), 5);
+}
+"""
+OWN_TEST = """
+#include "fabric_test.h"
+int main(void) {
+    ledger_set("own2/x", "1");
+    EXPECT_STATUS(ledger_call("%s", ""), 0);
+    EXPECT(ledger_writes() == 3 && ledger_has_read("own2/x"));
+    return ledger_end();
+}
+"""
 HOST_TEST = """
 #include "fabric_test.h"
 int main(void) {
@@ -131,7 +159,7 @@ class Escrows:
 
 def try_escrows(report: Report, tree: pathlib.Path, room: pathlib.Path, env: dict[str, str]) -> None:
     at = Escrows(report, tree, room, env)
-    for name, sources in {"fault": (FAULTS, FAULTS_TEST), "host": (HOST, HOST_TEST)}.items():
+    for name, sources in {"fault": (FAULTS, FAULTS_TEST), "host": (HOST, HOST_TEST), "own": (OWN, OWN_TEST)}.items():
         for end, text in zip((".c", "_test.c"), sources):
             (at.room / f"{name}{end}").write_text(text)
     for compiler in ("gcc", "clang"):
@@ -139,6 +167,7 @@ def try_escrows(report: Report, tree: pathlib.Path, room: pathlib.Path, env: dic
         for more in options:
             try_natively(at, "escrow", 20, at.sources, compiler, *more)
             try_natively(at, "host", 6, at.room, compiler, *more)
+            try_natively(at, "own", 2, at.room, compiler, *more)
         try_natively(at, "fault", 7, at.room, compiler)
     try_building(at)
     if not LIBRARY.exists():
@@ -163,6 +192,10 @@ def try_building(at: Escrows) -> None:
     at.case("ledger cc", ran.status == 0 and ran.out.startswith("valid functions=5 bytes=") and not ran.err, ran)
     play(at, "c", at.room / "escrow.wasm")
     at.report.case("the names of functions stay", b"turn" in (at.room / "escrow.wasm").read_bytes())
+    made = [at.ledger("cc", "own.c"), at.ledger("new", "owner", "--chaincode", "own=own.wasm", "--policy", "'A'")]
+    ran = at.ledger("call", "owner", "own", "--dry-run")
+    is_own = ran.out == "write own/ put 1\nwrite own/x put 1\nwrite own/y delete\n" and not any(it.status for it in made)
+    at.case("the program refuses what fabric_test.h does", is_own, ran)
     (at.room / "wrong.c").write_text("int invoke(void) { return x; }\n")
     for words, told in [(["wrong.c"], "wrong.c is not built: clang says why"), (["none.c"], "none.c is not built"),
                         (["escrow.wasm"], "its name has to end with .c"), (["host.c", "-o", "none/a.wasm"], "wasm-ld says why")]:

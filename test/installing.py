@@ -74,7 +74,7 @@ def try_chaincode(at: Installing, ledger: pathlib.Path) -> None:
     ran = at.run(ledger, "cc", chaincode / "escrow.c")
     at.case("ledger cc, installed", ran.status == 0 and ran.out.startswith("valid functions="), ran)
     ran = at.run("sh", "-c", f"{ledger} new demo && {ledger} call demo assets create pallet-7 Maker")
-    at.case("a network and a call, installed", ran.out.startswith("write asset/pallet-7 put Maker\nVALID in block 1, "), ran)
+    at.case("a network and a call, installed", ran.out.startswith("write assets/asset/pallet-7 put Maker\nVALID in block 1, "), ran)
     for name, begins in {"man/man1/ledger.1": ".TH LEDGER 1", "bash-completion/completions/ledger": "_ledger() {"}.items():
         text = (local / "share" / name).read_text()
         at.report.case(name, text.startswith(begins) and stat.S_IMODE((local / "share" / name).stat().st_mode) == 0o644, text[:80])

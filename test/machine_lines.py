@@ -11,7 +11,7 @@ from collections.abc import Callable, Iterator
 from report import Report
 
 sys.path.insert(0, str(pathlib.Path(__file__).resolve().parent.parent / "python"))
-from fabric_host import Entry, Fabric
+from fabric_host import Entry, Fabric, namespace_of
 from wasm_machine import Call, Machine, Memory, Spent
 from wasm_module import Function, Module, Type
 from wasm_operators import INSTRUCTIONS, LONG, OPERATORS, OUT_OF_BOUNDS, WORD, Trap
@@ -27,6 +27,8 @@ TESTS = {"eqz32": "i32.eqz", "eqz64": "i64.eqz"}
 CONVERSIONS = {"wrap": "i32.wrap_i64", "extend_s": "i64.extend_i32_s", "extend_u": "i64.extend_i32_u"}
 # As many instructions as a line shows, and what each costs but for host calls and growths.
 ALL, OWN_COST = 1_000_000, 1
+# The chaincode of calls, and what stands before a line of a ledger under rules 2.
+CHAINCODE, SECOND = "kv", "under 2 "
 # An answer of a line that is no case, or of a module that is refused.
 NO_RUN = re.compile("bad line|fault |invalid ")
 
@@ -165,12 +167,12 @@ def recorded(fabric: Fabric, before: list[str]) -> str:
     return " ".join(parts)
 
 
-def of_call(rest: str) -> str:
+def of_call(rest: str, rules: int) -> str:
     """`call STATE | ARGUMENT | MEMORY | CALL | ..`: the answers, the memory where it changed, and what was recorded."""
     written, argument, filled, *calls = rest.split(" | ")
     state = States()
     state.write(dict(writes_of(written)))
-    fabric, memory = Fabric(state, hex_of(argument)), Memory(0, 0)
+    fabric, memory = Fabric(state, hex_of(argument), namespace_of(CHAINCODE, rules)), Memory(0, 0)
     memory.bytes += hex_of(filled)
     before, answers = bytes(memory.bytes), []
     for name, *numbers in map(str.split, calls):
@@ -190,16 +192,16 @@ def writes_of(text: str) -> Iterator[tuple[bytes, bytes | None]]:
         yield bytes_of(key), bytes_of(value) if kind == "w" else None
 
 
-def of_simulate(rest: str) -> str | None:
+def of_simulate(rest: str, rules: int) -> str | None:
     """`simulate NAME FUEL HEX | ARGUMENT | ..`: what each call comes to on the state of those before. Nothing of upgrades."""
     head, *calls = rest.split(" |")
     name, fuel, module = head.split(" ", 2)
-    if name != "kv" or any(":" in it for it in calls):
+    if name != CHAINCODE or any(":" in it for it in calls):
         return None
     state, answers, key = States(), [], b"\0" + name.encode()
     for text in calls:
         argument = text.removeprefix(" ")
-        fabric = Fabric(state, argument.encode())
+        fabric = Fabric(state, argument.encode(), namespace_of(name, rules))
         fabric.reads[key] = None
         end = ended(Machine(Module(hex_of(module)), fabric, int(fuel)), int(fuel), Machine.invoke)
         answers.append(refused(end) or recorded(fabric, [f"{name}({argument})"]))
@@ -219,17 +221,20 @@ def refused(end: str) -> str:
     return f"refused 404 status {WORD.of(int(what))}" if what != "0" else ""
 
 
-RUNS: dict[str, Callable[[str], str | None]] = {
-    "run": of_run, "answer": of_answer, "trace": of_trace, "call": of_call, "simulate": of_simulate, "simulate2": of_simulate,
-}
+RUNS: dict[str, Callable[[str], str]] = {"run": of_run, "answer": of_answer, "trace": of_trace}
+# These differ by the rules of their ledger.
+CALLS: dict[str, Callable[[str, int], str | None]] = {"call": of_call, "simulate": of_simulate, "simulate2": of_simulate}
 
 
 def answered(line: str) -> str | None:
     """What the machine answers to a line; nothing where it is of something else."""
     case = line.partition(" #")[0].rstrip()
-    verb, _, rest = re.sub("^by [0-9]+ ", "", case).partition(" ")
+    rules = 2 if case.startswith(SECOND) else 1
+    verb, _, rest = re.sub("^by [0-9]+ ", "", case.removeprefix(SECOND)).partition(" ")
     if verb in RUNS:
         return RUNS[verb](rest)
+    if verb in CALLS:
+        return CALLS[verb](rest, rules)
     return of_operator(verb, rest) if verb in [*VERBS, *TESTS, "convert"] else None
 
 

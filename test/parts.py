@@ -52,6 +52,7 @@ EXAMPLE = pathlib.Path("examples/assets")
 RUN = ["run", EXAMPLE / "genesis.json", EXAMPLE / "events.jsonl", "--keys", EXAMPLE / "example_keys/all.key"]
 # A C source of which clang copies a struct and fills one with zeros.
 STRUCTS = """
+#define CHAINCODE "assets"
 #include "fabric.h"
 struct big { char bytes[200]; };
 static struct big one, two;
@@ -59,8 +60,8 @@ __attribute__((export_name("invoke"))) int invoke(void) {
     struct big zeros = {{0}};
     if (get_arg(&one, sizeof one) > (int)sizeof one) return 1;
     two = one;
-    if (put_state("a", 1, &two, 3)) return 2;
-    return put_state("b", 1, &zeros, 3);
+    if (put_state(OWN_KEY("a"), 8, &two, 3)) return 2;
+    return put_state(OWN_KEY("b"), 8, &zeros, 3);
 }
 """
 
@@ -217,8 +218,8 @@ def copy_a_struct(report: Report, at: Setting) -> None:
         at.run(report, f"structs {level}: linked", ["wasm-ld", "--no-entry", "-z", "stack-size=8192", "-o", module, built])
         text = (at.tree / "examples/assets/genesis.json").read_text()
         genesis.write_text(re.sub('"module": "[0-9a-f]+"', f'"module": "{module.read_bytes().hex()}"', text, count=1))
-        said = at.run(report, f"structs {level}: simulated", ["./ledger", "sim", genesis, "assets", "616263"])
-        report.case(f"structs {level}: its writes", said.endswith("write 61 put 616263\nwrite 62 put 000000\n"), said)
+        said, front = at.run(report, f"structs {level}: simulated", ["./ledger", "sim", genesis, "assets", "616263"]), b"assets/".hex()
+        report.case(f"structs {level}: its writes", said.endswith(f"write {front}61 put 616263\nwrite {front}62 put 000000\n"), said)
 
 
 def page(report: Report, at: Setting) -> None:

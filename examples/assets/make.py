@@ -74,7 +74,7 @@ def commit(envelopes: int) -> None:
 
 def forged() -> bytes:
     """A transfer of pallet-8 that no peer has seen, with tags that nobody made."""
-    key, proposal = b"asset/pallet-8", Call(CHAINCODE, b"transfer pallet-8 Thief", (99).to_bytes(16, "big"))
+    key, proposal = CHAINCODE.encode() + b"/asset/pallet-8", Call(CHAINCODE, b"transfer pallet-8 Thief", (99).to_bytes(16, "big"))
     reads = [Read(b"\0" + CHAINCODE.encode(), None), Read(key, (1, 1))]
     payload = Payload(proposal, reads=reads, writes=[Write(key, b"Thief")])
     return Envelope(payload.encode(), [Endorsement(org, bytes(64)) for org in ("Maker", "Carrier")]).encode()

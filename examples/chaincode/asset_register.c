@@ -1,4 +1,4 @@
-/* A register of assets. An asset is a key `asset/` and its name, whose value is its owner.
+/* A register of assets, for a chaincode named `assets`. An asset is a key `assets/asset/` and its name, whose value is its owner.
 
    The argument is a word, and what follows it, with one space between:
      create NAME OWNER    a new asset; status 2 if there is one of this name

@@ -3,11 +3,11 @@
      inspect NAME INSPECTOR DAY   an inspection of the asset; status 3 if there is no such asset
      inspection NAME              the result is who inspected the asset last, and on which day; status 3 if nobody did
 
-   An inspection has a key of its own, `inspection/` and the asset's name. So the assets that the first version wrote are
-   read as they are, by both. `delete` takes the asset's inspection out as well. A day has 1 to 32 bytes without spaces. */
+   An inspection has a key of its own, `assets/inspection/` and the asset's name. So the assets that the first version wrote
+   are read as they are, by both. `delete` takes the asset's inspection out as well. A day has 1 to 32 bytes without spaces. */
 #include "asset_register.h"
 
-static const char inspections[] = "inspection/";
+static const char inspections[] = OWN_KEY("inspection/");
 enum { INSPECTIONS = sizeof inspections - 1 };
 
 static char inspection_key[INSPECTIONS + MOST_WORD];

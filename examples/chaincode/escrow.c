@@ -6,19 +6,20 @@
      refund NAME       from paid to void: they did not
      show NAME         the result is the deal
 
-   A deal is a key `deal/` and its name. Its value is its state, a space and its terms. Status 3: there is no such deal. Status 4:
-   it is in another state. Status 1: the argument is none of these. */
+   A deal is a key `escrow/deal/` and its name. Its value is its state, a space and its terms. Status 3: there is no such deal.
+   Status 4: it is in another state. Status 1: the argument is none of these. */
+#define CHAINCODE "escrow"
 #include "fabric.h"
 
 enum { OK, BAD_ARGUMENT, EXISTS, MISSING, WRONG_STATE };
-enum { PREFIX = 5, MOST_NAME = 32, STATE = 4, MOST_TERMS = 64 };
+enum { PREFIX = sizeof OWN_KEY("deal/") - 1, MOST_NAME = 32, STATE = 4, MOST_TERMS = 64 };
 
 struct text {
     const char *at;
     int length;
 };
 
-static char argument[128], key[PREFIX + MOST_NAME] = "deal/", deal[STATE + 1 + MOST_TERMS];
+static char argument[128], key[PREFIX + MOST_NAME] = OWN_KEY("deal/"), deal[STATE + 1 + MOST_TERMS];
 
 /* The next word, which is taken off with the space behind it. */
 static struct text next(struct text *rest) {

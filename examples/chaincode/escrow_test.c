@@ -4,9 +4,9 @@
 static void a_deal_is_opened_paid_and_done_once(void) {
     EXPECT_STATUS(ledger_call("pay d1"), 3);
     EXPECT_STATUS(ledger_call("open d1 Anna Ben 100"), 0);
-    EXPECT(ledger_has_read("deal/d1") && ledger_writes() == 1);
+    EXPECT(ledger_has_read("escrow/deal/d1") && ledger_writes() == 1);
     ledger_commit();
-    EXPECT_TEXT(ledger_get("deal/d1"), "open Anna Ben 100");
+    EXPECT_TEXT(ledger_get("escrow/deal/d1"), "open Anna Ben 100");
     EXPECT_STATUS(ledger_call("open d1 Anna Ben 100"), 2);
     EXPECT_STATUS(ledger_call("release d1"), 4);
     EXPECT_STATUS(ledger_call("pay d1"), 0);

@@ -6,9 +6,11 @@
        int main(void) {
            EXPECT_STATUS(ledger_call("add 3"), 0);
            ledger_commit();
-           EXPECT_TEXT(ledger_get("count"), "3");
+           EXPECT_TEXT(ledger_get("counter/count"), "3");
            return ledger_end();
        }
+
+   A chaincode that defines CHAINCODE writes its own keys alone. One that does not writes any key, as under rules 1.
 
    Each call runs in a process of its own, so its statics begin fresh, as in a module. A fault is told as the trap that the module
    would most likely have. A call that takes longer than 5 seconds counts as spent. A module has fuel, memory of 16 pages at most
@@ -33,6 +35,8 @@
 #include <unistd.h>
 
 int invoke(void);
+/* What fabric.h makes of CHAINCODE; it has no address where the chaincode does not define that. */
+extern const char fabric_own_keys[] __attribute__((weak));
 
 enum { TEST_KEY = 64, TEST_VALUE = 4096, TEST_READS = 256, TEST_WRITES = 64, TEST_RANGES = 16, TEST_STATE = 4096 };
 /* How a call ended where not by a status. */
@@ -98,6 +102,12 @@ static struct test_entry *test_find(const void *key, unsigned length) {
 
 static int test_is_key(const void *key, unsigned length) { return length >= 1 && length <= TEST_KEY && *(const char *)key != 0; }
 
+static int test_is_own(const void *key, unsigned length) {
+    if (!fabric_own_keys) return 1;
+    size_t front = strlen(fabric_own_keys);
+    return length >= front && !memcmp(key, fabric_own_keys, front);
+}
+
 static int test_reply(const void *bytes, unsigned length, void *target, unsigned capacity) {
     if (length <= capacity) test_copy(target, bytes, length);
     return (int)length;
@@ -118,7 +128,7 @@ int get_state(const void *key, unsigned key_length, void *target, unsigned capac
 }
 
 static int test_write(const void *key, unsigned key_length, const void *value, unsigned length, int is_deleted) {
-    if (!test_is_key(key, key_length)) return FABRIC_KEY_LENGTH;
+    if (!test_is_key(key, key_length) || !test_is_own(key, key_length)) return FABRIC_KEY_LENGTH;
     if (length > TEST_VALUE) return FABRIC_VALUE_LENGTH;
     unsigned n = 0;
     while (n < test_now->writes && test_order(test_now->write[n].key, test_now->write[n].key_length, key, key_length)) ++n;

@@ -29,7 +29,7 @@ def call(world: World) -> str:
     status, said = world.regtuma(MAKER, "submit", "assets", "create", "pallet-7", MAKER)
     expect("the first call", (status, said.split(",")[0]), (0, "VALID"))
     expect("a read at another node", world.regtuma(SHOP, "evaluate", "assets", "read", "pallet-7"), (0, MAKER))
-    expect("a key", world.regtuma(MAKER, "get", "asset/pallet-7"), (0, MAKER))
+    expect("a key", world.regtuma(MAKER, "get", "assets/asset/pallet-7"), (0, MAKER))
     status, refused = world.regtuma(MAKER, "submit", "assets", "create", "pallet-7", "Thief")
     expect("what the chaincode refuses", (status, refused.split(":")[0]), (1, "refused 404"))
     alone = submit(world, MAKER, "transfer", "pallet-7", SHOP, orgs=[MAKER])
@@ -39,8 +39,8 @@ def call(world: World) -> str:
 
 def command_line(world: World) -> str:
     """Each task of the command line that only reads."""
-    id_ = world.ask(MAKER, "/blocks/1")["txs"][0]["id"]
-    for words, told in [(("state", "asset/"), "asset/pallet-7 1.0 Maker"), (("history", "asset/pallet-7"), f"1.0 Maker {id_}"),
+    id_, key = world.ask(MAKER, "/blocks/1")["txs"][0]["id"], "assets/asset/pallet-7"
+    for words, told in [(("state", "assets/asset/"), f"{key} 1.0 Maker"), (("history", key), f"1.0 Maker {id_}"),
                         (("status", id_), "VALID, block 1, place 0"), (("block", 1), f'"id": "{id_}"'), (("height",), ""),
                         (("health",), "Maker has "), (("members",), "serial number 0, policy")]:
         status, said = world.regtuma(MAKER, *words)
@@ -110,7 +110,7 @@ def bad_requests(world: World) -> str:
 def reads(world: World) -> str:
     """Each read of the API, once."""
     block = world.ask(MAKER, "/blocks/1")
-    tx, key = block["txs"][0], "asset%2Fpallet-7"
+    tx, key = block["txs"][0], "assets%2Fasset%2Fpallet-7"
     height = world.same_height(*ORGS)
     expect("/setting", [it["name"] if isinstance(it, dict) else it for it in world.ask(SHOP, "/setting")["orgs"]], list(ORGS))
     expect("/members", world.ask(SHOP, "/members")["serial"], 0)
@@ -119,7 +119,7 @@ def reads(world: World) -> str:
     expect("/blocks", [json.loads(it)["block"] for it in lines], list(range(1, height + 1)))
     expect("/blocks of none", list(world.ask(MAKER, "/blocks/9999")), ["why", "height"])
     expect("/state/KEY", world.ask(SHOP, f"/state/{key}?height={height}")["value"], SHOP.encode().hex())
-    expect("/state", len(world.ask(MAKER, "/state?start=asset/&end=0xff")["entries"]), 1)
+    expect("/state", len(world.ask(MAKER, "/state?start=assets/asset/&end=0xff")["entries"]), 1)
     expect("/history", world.ask(MAKER, f"/history/{key}")[0]["id"], tx["id"])
     expect("/transactions/ID", world.ask(MAKER, f"/transactions/{tx['id']}")["valid"], True)
     expect("/transactions of none", world.ask(MAKER, f"/transactions/{'0' * 64}?wait=0.2")["pending"], True)
@@ -180,7 +180,7 @@ def several(world: World) -> str:
     answers = world.client(MAKER).submit_all(calls)
     counts = collections.Counter("VALID" if it.get("valid") else f"refused {it.get('refused')}" for it in answers)
     expect("calls of one request", counts["VALID"], SEVERAL)
-    _, said = world.regtuma(MAKER, "state", "asset/many-", "asset/many-~")
+    _, said = world.regtuma(MAKER, "state", "assets/asset/many-", "assets/asset/many-~")
     expect("names are told as text", ("\x1b" in said, "many-\\x1b[2J" in said), (False, True))
     return f"{len(calls)} calls in one request: {', '.join(f'{count} {what}' for what, count in counts.items())}"
 
@@ -198,7 +198,7 @@ for line in sys.stdin:
     world.more[SHOP] = [f'approver = ["/usr/bin/python3", "{approver}"]']
     world.restart(SHOP)
     expect("the Shop's own call", submit(world, SHOP, "create", "gold", SHOP).get("flag"), VALID)
-    wait_until("the Maker has it", lambda: world.client(MAKER).get("asset/gold") is not None)
+    wait_until("the Maker has it", lambda: world.client(MAKER).get("assets/asset/gold") is not None)
     denied = submit(world, MAKER, "transfer", "gold", MAKER, orgs=[MAKER, SHOP])
     expect("a call that is not approved", "the Shop's gold stays with the Shop" in denied["why"], True)
     expect("another call", submit(world, MAKER, "transfer", "pallet-7", CARRIER, orgs=[MAKER, SHOP]).get("flag"), VALID)

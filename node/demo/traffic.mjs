@@ -18,7 +18,7 @@ for (let number = 0; number < Number(count); number++) {
   last = said;
 }
 // Each way of reading tells what the last transfer made.
-const key = `asset/${asset}`, owner = `owner-${count - 1}`;
+const key = `assets/asset/${asset}`, owner = `owner-${count - 1}`;
 const { value: first } = await ledger.blocks({ from: 1 }).next();
 const read = [text(await ledger.evaluate("assets", ["read", asset])), text(await ledger.get(key)), (await ledger.history(key)).length,
   (await ledger.state(key, `${key}0`)).length, JSON.stringify(await ledger.status(last.id)), first.block];

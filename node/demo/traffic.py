@@ -34,7 +34,7 @@ def main(words: list[str]) -> int:
 
 def is_read(ledger: Client, asset: str, owner: str, count: int, last: dict) -> bool:
     """Whether each way of reading tells what the last transfer made."""
-    key = f"asset/{asset}"
+    key = f"assets/asset/{asset}"
     read = (ledger.evaluate("assets", "read", asset).decode(), (ledger.get(key) or b"").decode(), len(ledger.history(key)),
             len(ledger.state(key, f"{key}0")), ledger.status(last["id"]) == last, next(ledger.blocks(1))["block"])
     return read == (owner, owner, count + 1, 1, True, 1)

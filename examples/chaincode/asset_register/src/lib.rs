@@ -1,5 +1,5 @@
-//! The register of assets of `../../asset_register.c`, in Rust. An asset is a key `asset/` and its
-//! name, whose value is its owner.
+//! The register of assets of `../../asset_register.c`, in Rust. An asset is a key `assets/asset/` and
+//! its name, whose value is its owner.
 //!
 //! The argument is a word, and what follows it, with one space between:
 //!
@@ -17,12 +17,14 @@
 
 use shim::Refusal;
 
+/// The name of the chaincode, with which its keys begin.
+const CHAINCODE: &str = "assets";
 const MOST_ARGUMENT: usize = 128;
 const MOST_WORD: usize = 32;
 const MOST_LISTED: usize = 16;
-const PREFIX: &[u8] = b"asset/";
+const PREFIX: &[u8] = shim::own_key!(CHAINCODE, "asset/");
 /// Where the assets end: `0` is the byte after `/`.
-const END: &[u8] = b"asset0";
+const END: &[u8] = shim::own_key!(CHAINCODE, "asset0");
 const MOST_KEY: usize = PREFIX.len() + MOST_WORD;
 const MOST_LINE: usize = MOST_WORD + 1 + MOST_WORD + 1;
 
@@ -125,14 +127,14 @@ fn list() -> Result<(), Status> {
 
 #[cfg(test)]
 mod tests {
-    use super::invoke;
+    use super::{invoke, CHAINCODE};
     use shim::testing::{Call, Ledger};
 
     /// A ledger on which pallet-7 is the Maker's and pallet-8 the Shop's.
     fn two_pallets() -> Ledger {
-        let mut ledger = Ledger::new();
-        ledger.set(b"asset/pallet-7", b"Maker");
-        ledger.set(b"asset/pallet-8", b"Shop");
+        let mut ledger = Ledger::of_chaincode(CHAINCODE);
+        ledger.set(b"assets/asset/pallet-7", b"Maker");
+        ledger.set(b"assets/asset/pallet-8", b"Shop");
         ledger
     }
 
@@ -144,9 +146,9 @@ mod tests {
     fn create_writes_the_owner_of_a_new_asset() {
         let call = call("create pallet-9 Carrier");
         assert_eq!((call.status, call.answer.as_slice()), (0, &b""[..]));
-        assert!(call.reads.iter().eq([b"asset/pallet-9"]));
+        assert!(call.reads.iter().eq([b"assets/asset/pallet-9"]));
         assert_eq!(
-            call.writes[&b"asset/pallet-9"[..]].as_deref(),
+            call.writes[&b"assets/asset/pallet-9"[..]].as_deref(),
             Some(&b"Carrier"[..])
         );
     }
@@ -173,11 +175,11 @@ mod tests {
 
     #[test]
     fn list_ends_after_16_assets_and_keeps_to_them() {
-        let mut ledger = Ledger::new();
-        ledger.set(b"asset0", b"behind");
-        ledger.set(b"asset", b"before");
+        let mut ledger = Ledger::of_chaincode(CHAINCODE);
+        ledger.set(b"assets/asset0", b"behind");
+        ledger.set(b"assets/asset", b"before");
         for name in 10..30 {
-            ledger.set(format!("asset/{name}").as_bytes(), &[b'x'; 32]);
+            ledger.set(format!("assets/asset/{name}").as_bytes(), &[b'x'; 32]);
         }
         let listed = ledger.call(invoke, b"list");
         let lines: Vec<_> = listed

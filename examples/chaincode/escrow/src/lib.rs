@@ -1,5 +1,5 @@
-//! The escrow of `../../escrow.c`, in Rust. A deal is a key `deal/` and its name. Its value is its
-//! state, a space and its terms.
+//! The escrow of `../../escrow.c`, in Rust. A deal is a key `escrow/deal/` and its name. Its value is
+//! its state, a space and its terms.
 //!
 //! ```text
 //! open NAME TERMS   a new deal, which is open; status 2 if there is one of this name
@@ -16,8 +16,10 @@
 
 use shim::Refusal;
 
+/// The name of the chaincode, with which its keys begin.
+const CHAINCODE: &str = "escrow";
+const PREFIX: &[u8] = shim::own_key!(CHAINCODE, "deal/");
 const MOST_ARGUMENT: usize = 128;
-const PREFIX: &[u8] = b"deal/";
 const MOST_NAME: usize = 32;
 const STATE: usize = 4;
 const MOST_TERMS: usize = 64;
@@ -82,12 +84,12 @@ fn put(key: &[u8], state: &[u8], terms: &[u8]) -> Result<(), Status> {
 
 #[cfg(test)]
 mod tests {
-    use super::{invoke, MOST_NAME, MOST_TERMS};
+    use super::{invoke, CHAINCODE, MOST_NAME, MOST_TERMS};
     use shim::testing::Ledger;
 
     #[test]
     fn a_deal_is_opened_paid_and_done_once() {
-        let mut ledger = Ledger::new();
+        let mut ledger = Ledger::of_chaincode(CHAINCODE);
         for (argument, status) in [
             ("pay d1", 3),
             ("open d1 Anna Ben 100", 0),
@@ -108,7 +110,7 @@ mod tests {
 
     #[test]
     fn what_is_no_argument_is_refused() {
-        let ledger = Ledger::new();
+        let ledger = Ledger::of_chaincode(CHAINCODE);
         let long = "7".repeat(MOST_NAME + 1);
         for (argument, status) in [
             (format!("show {}", &long[1..]), 3),

@@ -31,7 +31,7 @@
 //!
 //! shim::start!(invoke);
 //!
-//! let mut ledger = shim::testing::Ledger::new();
+//! let mut ledger = shim::testing::Ledger::of_chaincode("owners");
 //! ledger.set(b"pallet-7", b"Maker");
 //! assert_eq!(ledger.call(invoke, b"pallet-7").answer, b"Maker");
 //! assert_eq!(ledger.call(invoke, b"pallet-8").status, 2);
@@ -68,8 +68,8 @@ pub const MOST_LIMIT: usize = 64;
 /// Why a call of the ledger gave nothing. Unless it is `Capacity`, nothing was recorded either.
 #[derive(Clone, Copy, PartialEq, Eq, Debug)]
 pub enum Refusal {
-    /// -2: a key has not 1 to 64 bytes or begins with the byte 0, or a bound of a range has more
-    /// than 64.
+    /// -2: a key has not 1 to 64 bytes or begins with the byte 0, one to write is not the
+    /// chaincode's own, or a bound of a range has more than 64.
     Key,
     /// -3: one more key read than 256, key written than 64, or range than 16.
     Count,
@@ -104,14 +104,14 @@ pub fn contains(key: &[u8]) -> Result<bool, Refusal> {
     }
 }
 
-/// Gives a key this value. The last write of a key counts.
+/// Gives one of the chaincode's [own keys](own_key!) this value. The last write of a key counts.
 ///
 /// Refused by `Key`, `Length` and `Count`.
 pub fn put(key: &[u8], value: &[u8]) -> Result<(), Refusal> {
     done(host::put_state(key, value))
 }
 
-/// Makes a key absent. The last write of a key counts.
+/// Makes one of the chaincode's [own keys](own_key!) absent. The last write of a key counts.
 ///
 /// Refused by `Key` and `Count`.
 pub fn delete(key: &[u8]) -> Result<(), Refusal> {
@@ -206,6 +206,40 @@ impl core::iter::FusedIterator for Entries<'_> {}
 /// So many bytes, and those behind them.
 fn first(bytes: &[u8], count: usize) -> Option<(&[u8], &[u8])> {
     Some((bytes.get(..count)?, bytes.get(count..)?))
+}
+
+/// A key of the chaincode that has this name, or what several of its keys begin with: the name, `/`
+/// and the rest. Both are constant texts.
+///
+/// A chaincode writes only its own keys, and reads all. Under rules 1 it writes any key.
+///
+/// ```
+/// const CHAINCODE: &str = "escrow";
+/// const PREFIX: &[u8] = shim::own_key!(CHAINCODE, "deal/");
+/// assert_eq!(PREFIX, b"escrow/deal/");
+/// ```
+#[macro_export]
+macro_rules! own_key {
+    ($chaincode:expr, $rest:expr) => {{
+        const KEY: [u8; $chaincode.len() + 1 + $rest.len()] = $crate::key_of($chaincode, $rest);
+        &KEY
+    }};
+}
+
+/// What [`own_key!`] makes.
+pub const fn key_of<const LENGTH: usize>(chaincode: &str, rest: &str) -> [u8; LENGTH] {
+    let (name, rest) = (chaincode.as_bytes(), rest.as_bytes());
+    let mut key = [b'/'; LENGTH];
+    let mut at = 0;
+    while at < name.len() + rest.len() {
+        if at < name.len() {
+            key[at] = name[at];
+        } else {
+            key[at + 1] = rest[at - name.len()];
+        }
+        at += 1;
+    }
+    key
 }
 
 /// Makes a function the module's `invoke`. It takes nothing and gives a `Result<(), S>`: `Ok` where

@@ -1,8 +1,8 @@
 //! A ledger in memory, on which a chaincode's calls are tried natively.
 //!
 //! It answers as the ledger does: a call reads the committed state alone, also where it wrote
-//! before, keys that begin with the byte 0 are refused and stand in no range, and every limit
-//! counts. What it does not have is fuel, and memory that ends: a run of the module may be refused
+//! before, keys that begin with the byte 0 are refused and stand in no range, a chaincode writes its
+//! own keys alone, and every limit counts. What it does not have is fuel, and memory that ends: a run of the module may be refused
 //! where a call here is done.
 
 use crate::{ABSENT, BAD_COUNT, BAD_KEY, BAD_LENGTH, BAD_LIMIT};
@@ -14,10 +14,12 @@ use std::ops::Bound;
 /// Keys and their values.
 type State = BTreeMap<Vec<u8>, Vec<u8>>;
 
-/// A committed state.
+/// A committed state, and the chaincode that is called on it.
 #[derive(Clone, Default, Debug)]
 pub struct Ledger {
     state: State,
+    /// What each key begins with that the chaincode may write.
+    own: Vec<u8>,
 }
 
 /// How a call ended.
@@ -36,9 +38,17 @@ pub struct Call {
 }
 
 impl Ledger {
-    /// An empty state.
+    /// An empty state under rules 1, by which a chaincode writes any key.
     pub fn new() -> Self {
         Self::default()
+    }
+
+    /// An empty state on which the chaincode of this name writes its own keys alone.
+    pub fn of_chaincode(name: &str) -> Self {
+        Self {
+            state: State::new(),
+            own: format!("{name}/").into_bytes(),
+        }
     }
 
     /// The committed value of a key.
@@ -74,7 +84,7 @@ impl Ledger {
             argument.len() <= MOST_VALUE,
             "an argument has up to {MOST_VALUE} bytes"
         );
-        let running = Running::begin(self.state.clone(), argument.to_vec());
+        let running = Running::begin(self.clone(), argument.to_vec());
         let status = crate::status_of(invoke());
         running.end(status)
     }
@@ -92,7 +102,7 @@ impl Ledger {
 
 /// What a call that runs can see, and what it did.
 struct Record {
-    state: State,
+    ledger: Ledger,
     argument: Vec<u8>,
     ranges: usize,
     call: Call,
@@ -107,7 +117,7 @@ thread_local! {
 struct Running;
 
 impl Running {
-    fn begin(state: State, argument: Vec<u8>) -> Self {
+    fn begin(ledger: Ledger, argument: Vec<u8>) -> Self {
         let call = Call {
             status: 0,
             answer: Vec::new(),
@@ -120,7 +130,7 @@ impl Running {
                 "a call runs on this thread already"
             );
             *record.borrow_mut() = Some(Record {
-                state,
+                ledger,
                 argument,
                 ranges: 0,
                 call,
@@ -169,33 +179,33 @@ pub(crate) fn get_state(key: &[u8], target: &mut [u8]) -> i32 {
         }
         reads.insert(key.to_vec());
         record
-            .state
+            .ledger
             .get(key)
             .map_or(ABSENT, |value| reply(value, target))
     })
 }
 
 pub(crate) fn put_state(key: &[u8], value: &[u8]) -> i32 {
-    if is_key(key) && value.len() > MOST_VALUE {
-        return BAD_LENGTH;
-    }
-    write(key, Some(value.to_vec()))
+    write(key, Some(value))
 }
 
 pub(crate) fn del_state(key: &[u8]) -> i32 {
     write(key, None)
 }
 
-fn write(key: &[u8], value: Option<Vec<u8>>) -> i32 {
-    if !is_key(key) {
-        return BAD_KEY;
-    }
+fn write(key: &[u8], value: Option<&[u8]>) -> i32 {
     in_record(|record| {
+        if !is_key(key) || !key.starts_with(&record.ledger.own) {
+            return BAD_KEY;
+        }
+        if value.map_or(0, <[u8]>::len) > MOST_VALUE {
+            return BAD_LENGTH;
+        }
         let writes = &mut record.call.writes;
         if !writes.contains_key(key) && writes.len() == MOST_WRITTEN {
             return BAD_COUNT;
         }
-        writes.insert(key.to_vec(), value);
+        writes.insert(key.to_vec(), value.map(<[u8]>::to_vec));
         0
     })
 }
@@ -214,6 +224,7 @@ pub(crate) fn range_state(start: &[u8], end: &[u8], limit: usize, target: &mut [
         record.ranges += 1;
         let from = (Bound::Included(start), Bound::Unbounded);
         let held = record
+            .ledger
             .state
             .range::<[u8], _>(from)
             .filter(|(key, _)| is_key(key));
