@@ -137,7 +137,8 @@ class Lines:
     """Makes of entries lines `<revision>.<line> <mark>`, as the ledger's peer reads them, of the marks that count: alike wherever and
     whenever the log is read from its beginning.
 
-    An organisation says what it has seen of each block once, in its own part, in its entry `ORG/seen-N`. An envelope counts in any
+    An organisation says what it has seen of each block once, in its own part, in its entry `ORG/seen-N`, as soon as the log's envelopes
+    before it may have made N blocks: else it could have each node verify signatures for all numbers. An envelope counts in any
     organisation's part, as far as that one's share goes, and a tick as the first line of its entry `ORG/tick-N`, where it is the Nth that
     counts, and there is an envelope behind the one before. What the first entry's organisation puts next, as `ORG/refill-..`, is a chain that
     was, and costs nobody's share. Which genesis file counts says the first line that counts, and no other one.
@@ -152,6 +153,8 @@ class Lines:
         self.revision = self.lines = 0
         # How many ticks have counted, and whose envelopes stand behind the last one.
         self.ticks, self.behind = 0, set[bytes]()
+        # How many envelopes have counted: each block has one or more.
+        self.envelopes = 0
         # The entries in which somebody has said what was seen.
         self.seen = set[bytes]()
         # How names of entries that fill the log begin, as long as no other entry has come behind the first.
@@ -201,7 +204,7 @@ class Lines:
             found = [(it.start(), it[0].strip(b"\n")) for it in marks.finditer(text)]
             if text.startswith(b"\ntick\n") and TICK.fullmatch(name):
                 found.append((0, b"tick"))
-        if (said := SEEN.fullmatch(name)) and int(said[2]) <= self.shares.last and name not in self.seen:
+        if (said := SEEN.fullmatch(name)) and int(said[2]) <= min(self.shares.last, self.envelopes) and name not in self.seen:
             if (at := text.find(b"\nseen %s %s " % said.groups())) >= 0:
                 mark = text[at + 1:text.index(b"\n", at + 1)]
                 if len(mark) <= LONGEST_SEEN:
@@ -225,6 +228,7 @@ class Lines:
         is_paid = part == NOBODY or self.shares.pay(part, self.shares.cost(size))
         if is_paid:
             self.behind.add(part)
+            self.envelopes += 1
         return is_paid
 
     def _ticks(self, part: bytes, name: bytes) -> bool:

@@ -23,6 +23,12 @@ def counted(lines: Lines, *given: tuple[str, str], first: int = 2) -> list[str]:
     return [line.decode().rstrip("\n") for it in made for line in it.values()]
 
 
+def grown(lines: Lines, many: int) -> Lines:
+    """Lines of a log with so many envelopes, as there are where it has so many blocks. None of them waits."""
+    counted(lines, ("Depot/a", f"{ENVELOPE}\n" * many), (f"Depot/tick-{lines.ticks + 1}", "tick"), first=1)
+    return lines
+
+
 class Counts(unittest.TestCase):
     def test_what_can_be_no_mark_does_not(self):
         noise = f"\n\nno hex\n{ENVELOPE} \nTICK\ngenesis 00\nmodule 1 0061736d\nseen\nseen \nseen Maker\n\xff\n{ENVELOPE}g\n {ENVELOPE}\r"
@@ -41,13 +47,23 @@ class Counts(unittest.TestCase):
         said = f"seen Shop 65 00\nseen Shop 6\n{ENVELOPE}\nseen Shop 64 01\nseen Shop 64 02\n{OTHER}"
         given = [("Shop/a", "seen Shop 64 00"), ("Shop/seen-64", said), ("Shop/seen-64", "seen Shop 64 03"), ("Shop/seen-064", "seen Shop 064 00"), ("Shop/seen-65", "seen Shop 65 04"),
                  ("Shop/x/seen-66", "seen Shop 66 00"), ("Maker/seen-64", "seen Maker 64 05"), ("Shop/seen-100000", "seen Shop 100000 00")]
-        self.assertEqual(counted(Lines(), *given), [f"3.2 {ENVELOPE}", "3.3 seen Shop 64 01", f"3.5 {OTHER}", "6.0 seen Shop 65 04",
-                                                    "8.0 seen Maker 64 05"])
+        self.assertEqual(counted(grown(Lines(), 65), *given), [f"3.2 {ENVELOPE}", "3.3 seen Shop 64 01", f"3.5 {OTHER}", "6.0 seen Shop 65 04",
+                                                               "8.0 seen Maker 64 05"])
 
     def test_what_was_seen_has_a_longest_line(self):
         said = f"seen Shop 7 {'0f' * 32} {'0f' * 64}"
         for more, wanted in (("", 1), ("0" * 500, 0)):
-            self.assertEqual(len(Lines().of(Entry(7, b"Shop/seen-7", (said + more).encode()))), wanted)
+            self.assertEqual(len(grown(Lines(), 7).of(Entry(7, b"Shop/seen-7", (said + more).encode()))), wanted)
+
+    def test_a_block_is_seen_once_there_may_be_one_of_its_number(self):
+        """A block has an envelope or more, in a refill too; and the ledger's rules have a last block."""
+        for lines, wanted in ((Lines(), 3), (Lines(last=2), 2)):
+            given = [(f"Shop/seen-{it}", f"seen Shop {it} 00") for it in (1, 2, 3, 4, 4_000_000_000)]
+            self.assertEqual(counted(lines, *given), [])
+            self.assertEqual(len(counted(grown(lines, 3), *given, first=9)), wanted)
+        refill = [("Maker/genesis", f"genesis {'0f' * 32}"), ("Maker/refill-1", f"{ENVELOPE}\n{OTHER}")]
+        given = [("Shop/seen-2", "seen Shop 2 00"), ("Shop/seen-3", "seen Shop 3 00")]
+        self.assertEqual(counted(Lines(), *refill, *given)[3:], ["4.0 seen Shop 2 00"])
 
     def test_the_first_line_says_which_genesis_counts(self):
         first, other = (f"genesis {it * 32}" for it in ("0f", "f0"))
@@ -141,14 +157,14 @@ class Attacks(unittest.TestCase):
         self.others_go_on(lines, 9000)
 
     def test_by_signatures_that_all_verify(self):
-        lines = Lines()
+        lines = grown(Lines(), 9)
         attack = [(f"Shop/seen-{it % 9 + 1}", f"seen Shop {it % 9 + 1} {'00' * 32} {'11' * 64}\n" * 400) for it in range(50)]
         self.assertEqual(len(counted(lines, *attack, ("Shop/x", attack[0][1]))), 9)
         self.others_go_on(lines, 90)
 
     def test_by_what_it_says_that_it_has_seen(self):
         """Each signature costs each committer its verification: of a block one counts."""
-        lines, said = Lines(), f"seen Shop 7 {'0f' * 32} {'0f' * 64}"
+        lines, said = grown(Lines(), 8), f"seen Shop 7 {'0f' * 32} {'0f' * 64}"
         attack = [(f"Shop/{name}", f"{said}\n" * 500) for name in ("x", "seen-7", "seen-07", "seen-8", "seen-7-1", "x/seen-7", "seen-100007")]
         self.assertEqual(counted(lines, *attack), [f"3.0 {said}"])
         for wrong in ("\n" + said, f"seen Shop 70 {'0f' * 32}", "seen Shop 7"):
@@ -189,7 +205,7 @@ class Junk(unittest.TestCase):
 
     def test_python_sees_nothing_of_what_cannot_count(self):
         """However many lines of whatever kind an entry has, it takes few calls."""
-        lines, calls = self.begun(), 0
+        lines, calls = grown(self.begun(), 7), 0
 
         def count(_frame, event, _):
             nonlocal calls
@@ -204,10 +220,10 @@ class Junk(unittest.TestCase):
                 self.assertEqual((found, calls < 60), ({}, True), calls)
 
     def test_an_entry_that_counts_for_nothing_costs_a_little(self):
-        lines = self.begun()
+        lines = grown(self.begun(), 8)
         given = [("Shop/a", "x"), ("Shop/b", ""), ("Shop/tick-1", "tick"), ("Shop/seen-7", "x"), ("Shop/seen-8", "seen Shop 8 00"), ("x", "x")]
         self.assertEqual(counted(lines, *given), ["6.0 seen Shop 8 00"])
-        self.assertEqual((lines.shares.paid, lines.shares.least), ({b"Shop": 4 * lines.shares.block // 512}, lines.shares.block // 512))
+        self.assertEqual((lines.shares.paid[b"Shop"], lines.shares.least), (4 * lines.shares.block // 512, lines.shares.block // 512))
         counted(lines, ("Carrier/a", ENVELOPE))
         self.assertEqual(lines.shares.paid[b"Carrier"], lines.shares.cost(entries.SHORTEST))
 
@@ -218,17 +234,17 @@ class Junk(unittest.TestCase):
             counted(lines, (f"Shop/{it}", "x"), first=2 + it)
         paid = lines.shares.paid[b"Shop"]
         self.assertTrue(1.4 < paid / lines.shares.block <= 1.5)
-        given = [("Shop/a", ENVELOPE), ("Shop/seen-64", f"{ENVELOPE}\nseen Shop 64 00"), ("Carrier/a", ENVELOPE)]
-        self.assertEqual(counted(lines, *given, first=9000), ["9001.1 seen Shop 64 00", f"9002.0 {ENVELOPE}"])
+        given = [("Shop/a", ENVELOPE), ("Shop/seen-2", f"{ENVELOPE}\nseen Shop 2 00"), ("Carrier/a", ENVELOPE)]
+        self.assertEqual(counted(grown(lines, 2), *given, first=9000), ["9001.1 seen Shop 2 00", f"9002.0 {ENVELOPE}"])
         self.assertEqual(lines.shares.paid[b"Shop"], paid)
 
     def test_one_expression_finds_what_each_line_by_itself_is(self):
-        chance, words = random.Random(7), ["", "x", "tick", "tick", "tickx", ENVELOPE, ENVELOPE, OTHER + "x", ENVELOPE[:-1], "seen Shop 7 1",
-                                           "seen Shop 7", "seen Shop 7 \xff", f"genesis {'0f' * 32}", f"genesis {'0f' * 31}"]
+        chance, words = random.Random(7), ["", "x", "tick", "tick", "tickx", ENVELOPE, ENVELOPE, OTHER + "x", ENVELOPE[:-1], "seen Shop 2 1",
+                                           "seen Shop 2", "seen Shop 2 \xff", f"genesis {'0f' * 32}", f"genesis {'0f' * 31}"]
         for _ in range(300):
             lines, plain = Lines(), Plain()
             for number in range(2, 12):
-                name = chance.choice(("Shop/a", f"Shop/tick-{lines.ticks + 1}", "Shop/seen-7", "Shop/refill-1", "x", "Maker/tick-1-0"))
+                name = chance.choice(("Shop/a", f"Shop/tick-{lines.ticks + 1}", "Shop/seen-2", "Shop/refill-1", "x", "Maker/tick-1-0"))
                 entry = Entry(number, name.encode(), "\n".join(chance.choices(words, k=chance.randrange(9))).encode("latin-1"))
                 self.assertEqual(list(lines.of(entry)), plain.of(entry), entry)
             self.assertEqual((lines.ticks, lines.has_lines), (plain.ticks, plain.has_lines))
@@ -239,8 +255,11 @@ class Plain:
 
     def __init__(self):
         self.ticks, self.behind, self.has_lines, self.seen, self.names = 0, False, False, set[bytes](), list[bytes]()
+        # How many envelopes have counted, and how many before the last entry.
+        self.envelopes = self.before = 0
 
     def of(self, entry: Entry) -> list[int]:
+        self.before = self.envelopes
         self.names.append(entry.name)
         is_refill = self.names[0].startswith(b"Shop/") and all(it.startswith(b"Shop/refill-") for it in self.names[1:]) and len(self.names) > 1
         if b"/" not in entry.name:
@@ -248,10 +267,10 @@ class Plain:
         return [place for place, it in enumerate(entry.value.split(b"\n")) if self.counts(entry.name, it, is_refill, place)]
 
     def counts(self, name: bytes, line: bytes, is_refill: bool, place: int) -> bool:
-        if line.startswith(b"seen Shop 7 ") and name == b"Shop/seen-7" and name not in self.seen:
+        if line.startswith(b"seen Shop 2 ") and name == b"Shop/seen-2" and name not in self.seen and self.before >= 2:
             self.seen.add(name)
         elif re.fullmatch(rb"[0-9a-f]{58,}", line):
-            self.behind = True
+            self.behind, self.envelopes = True, self.envelopes + 1
         elif line == b"tick" and self.behind and (is_refill or not place and re.fullmatch(rb"\w+/tick-%d(-0)?" % (self.ticks + 1), name)):
             self.ticks, self.behind = self.ticks + 1, False
         elif self.has_lines or not re.fullmatch(rb"genesis [0-9a-f]{64}", line):
@@ -315,11 +334,6 @@ class Blocks(unittest.TestCase):
         file.write_text(json.dumps({"count": 1, "preferred": 1, "rules": 3}))
         with self.assertRaises(LogError):
             Lines.by(str(file))
-
-    def test_what_is_seen_goes_as_far_as_the_rules_let_blocks_go(self):
-        for last, wanted in ((65_535, 1), (4_000_000_000, 2)):
-            given = [(f"Shop/seen-{it}", f"seen Shop {it} 00") for it in (65_535, 4_000_000_000, 4_000_000_001)]
-            self.assertEqual(len(counted(Lines(last=last), *given)), wanted)
 
 
 if __name__ == "__main__":

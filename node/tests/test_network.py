@@ -122,6 +122,7 @@ class Attacks(Case):
         chain, made = (await self.begin()).chain, self.enveloped(call(0), "Maker", "Carrier")
         lines = [f"call 1 {json.dumps(call(1))}", f"9.9 call 1 {json.dumps(call(1))}", 'ask 1 {"ask":"members"}', "log 9.9 tick", "seen 1 1",
                  f"agreed 1 {json.dumps(call(1))}", "answer 1 7 null", f"seen Shop 1 {'00' * 32} call 1"]
+        await chain.log.append("Shop/a", [ENVELOPE])
         await chain.log.append("Shop/seen-1", lines)
         self.assertEqual(await self.flag(chain, call(0), made), 0)
         # Nor is it where the node hands it on.
