@@ -31,6 +31,8 @@ POLICY = two_of(ORGS)
 LATER_ORGS = ["Carrier", "Depot", "Maker"]
 CHAINCODE = "assets"
 DEFINITION_KEY, MEMBERSHIP_KEY = b"\0" + CHAINCODE.encode(), b"\0"
+# What each key begins with that the chaincode may write under rules 2.
+NAMESPACE = CHAINCODE.encode() + b"/"
 # Those that are installed, and one that was written later. A profile is of a closed definition, or of an open one.
 MODULES = [hashlib.sha256(name).digest() for name in (b"first", b"second")]
 LATER = hashlib.sha256(b"later").digest()
@@ -92,11 +94,12 @@ def public_of(seed: bytes) -> str:
 class Chain:
     """Blocks of transactions whose flags are worked out as they are added. Two tags are wanted of each."""
 
-    def __init__(self) -> None:
-        self.blocks: list[dict] = []
-        # The version and the value of each key, and before the block that is made.
+    def __init__(self, rules: int = 1) -> None:
+        self.rules, self.blocks = rules, list[dict]()
+        # The version and the value of each key, and before the block that is made; and the keys that this wrote so far.
         self.state: dict[bytes, tuple[str, str]] = {}
         self.before: dict[bytes, tuple[str, str]] = {}
+        self.written: set[bytes] = set()
         self.ids: set[str] = set()
         self.made = self.serial = 0
         # Who stands: each member's public key, or None for its shared one. Under which key each tag that is right was made.
@@ -152,9 +155,11 @@ class Chain:
         amend = {"serial": self.serial + 1 if serial is None else serial, "members": members, "policy": policy or two_of(names)}
         return self.proposed({"amend": amend}, [MEMBERSHIP_KEY], [], [(MEMBERSHIP_KEY, wire.Membership.of(amend).encode())], orgs, claimed)
 
-    def entries(self, start: bytes, end: bytes, limit: int) -> list[dict]:
-        keys = sorted(key for key in self.state if key[0] and start <= key and (not end or key < end))
-        return [{"key": key.hex(), "version": self.version(key)} for key in keys[:limit]]
+    def entries(self, start: bytes, end: bytes, limit: int, before: bool = False) -> list[dict]:
+        """The first entries of a range, now or before the block that is made."""
+        state = self.before if before else self.state
+        keys = sorted(key for key in state if key[0] and start <= key and (not end or key < end))
+        return [{"key": key.hex(), "version": state[key][0]} for key in keys[:limit]]
 
     def flag(self, tx: dict) -> int:
         if tx["id"] in self.ids:
@@ -162,20 +167,27 @@ class Chain:
         right = {it["org"] for it in tx["endorsements"] if it["right"]}
         if len(right & set(self.callers if "arg" in tx else self.members)) < 2 or not self.is_usable(tx):
             return NOT_ENDORSED
-        if any(self.version(field(it, "key")) != it["version"] for it in tx["reads"]):
+        if not all(self.is_current(field(it, "key"), it["version"]) for it in tx["reads"]):
             return CONFLICT
-        if any(self.entries(field(it, "start"), field(it, "end"), it["limit"]) != it["entries"] for it in tx["ranges"]):
-            return PHANTOM
-        return VALID
+        # Under rules 2 a range has to be as it is now, and as it was before the block.
+        moments = [False] if self.rules == 1 else [False, True]
+        seen = [(it["entries"], self.entries(field(it, "start"), field(it, "end"), it["limit"], before))
+                for it in tx["ranges"] for before in moments]
+        return VALID if all(claimed == found for claimed, found in seen) else PHANTOM
+
+    def is_current(self, key: bytes, version: str | None) -> bool:
+        """Whether a key was read as it is now, and, under rules 2, its block has not written it so far."""
+        return self.version(key) == version and (self.rules == 1 or key not in self.written)
 
     def is_usable(self, tx: dict) -> bool:
-        """Whether it is a call, or proposes a definition or the next membership that can be used, on what stood before."""
+        """Whether it is a call that writes what it may, or proposes a definition or the next membership that can be used, on what
+        stood before."""
         if "arg" not in tx and any(self.is_newer(it) for it in tx["reads"]):
             return False
         if "amend" in tx:
             return tx["amend"]["serial"] == self.serial + 1 and self.is_usable_membership(tx["amend"])
         if "upgrade" not in tx:
-            return True
+            return self.rules == 1 or all(field(it, "key").startswith(NAMESPACE) for it in tx["writes"])
         closed, policy = tx["upgrade"]["profile"] == CLOSED, tx["upgrade"]["policy"]
         if closed:
             return field(tx["upgrade"], "module") in MODULES and policy == POLICY
@@ -205,7 +217,7 @@ class Chain:
     def add(self, *proposed: dict) -> None:
         """Puts transactions into the next block."""
         number = len(self.blocks) + 1
-        self.before = dict(self.state)
+        self.before, self.written = dict(self.state), set()
         txs: list[dict] = [
             {**tx, "endorsements": [{**it, "right": self.is_right(it["org"], it["tag"])} for it in tx["endorsements"]]}
             for tx in proposed]
@@ -213,6 +225,7 @@ class Chain:
             tx["flag"] = self.flag(tx)
             self.ids.add(tx["id"])
             for it in tx["writes"] if tx["flag"] == VALID else []:
+                self.written.add(field(it, "key"))
                 self.state.pop(field(it, "key"), None)
                 if it["value"] is not None:
                     self.state[field(it, "key")] = (f"{number}.{place}", it["value"])
@@ -230,8 +243,9 @@ class Chain:
     def lines(self) -> Iterator[dict]:
         modules = [{"profile": 1, "module": module.hex()} for module in MODULES]
         chaincode = {"name": CHAINCODE, "policy": POLICY, "fuel": 100000, **modules[0]}
+        rules = {"rules": self.rules, "digest": digest(b"genesis")} if self.rules > 1 else {}
         yield {"ledger": 1, "orgs": ORGS, "peers": ORGS, "chaincodes": [chaincode], "modules": modules, "upgrade": POLICY,
-               "count": 8, "preferred": 65536, "absolute": 524288, "reorder": False}
+               "count": 8, "preferred": 65536, "absolute": 524288, "reorder": False, **rules}
         yield from self.blocks
         yield {"audit": "agrees", "rerun": self.flags()[VALID], "blocks": len(self.blocks), "end": "clean"}
 
@@ -241,7 +255,7 @@ def text_of(lines: Iterable[dict]) -> str:
 
 
 def key_of(number: int) -> bytes:
-    return b"asset/%04d" % number
+    return NAMESPACE + b"%04d" % number
 
 
 def kept(names: list[str]) -> list[dict]:
@@ -254,7 +268,7 @@ def some_transaction(chain: Chain, chance: random.Random, before: list[dict]) ->
     key, kind = key_of(chance.randrange(400)), chance.random()
     value = chance.choice(ORGS).encode() + b" %d" % chance.randrange(10**6)
     if kind < 0.04:
-        return chain.transaction(ranges=[(key, b"asset0", chance.randrange(1, 17))], argument=b"list")
+        return chain.transaction(ranges=[(key, b"assets0", chance.randrange(1, 17))], argument=b"list")
     if kind < 0.08:
         return chain.transaction(reads=[key], writes=[(key, None)], argument=b"drop " + key)
     if kind < 0.14:
@@ -271,9 +285,9 @@ def some_transaction(chain: Chain, chance: random.Random, before: list[dict]) ->
     return chain.transaction(reads=[key, other], writes=[(key, value)], argument=b"transfer " + key + b" " + value)
 
 
-def made_up(blocks: int) -> Chain:
+def made_up(blocks: int, rules: int = 1) -> Chain:
     """A chain of so many blocks, of all flags."""
-    chain, chance = Chain(), random.Random(1)
+    chain, chance = Chain(rules), random.Random(1)
     before: list[dict] = []
     for _ in range(blocks):
         txs = [some_transaction(chain, chance, before) for _ in range(chance.randrange(1, 7))]
@@ -302,6 +316,38 @@ def later() -> Chain:
         chain.upgrade(LATER, policy="'Depot'", profile=OPEN),
         chain.upgrade(LATER, policy="'Maker' ", profile=OPEN),
         chain.amendment([{"name": "Carrier"}, {"name": "Depot", "public": "5a" * 32}], policy="OR('Carrier','Depot')"))
+    return chain
+
+
+def claiming(tx: dict, reads: dict[bytes, str | None], entries: list[tuple[bytes, str]] | None = None) -> dict:
+    """A call that claims to have read these versions, and these entries of its only range."""
+    tx["reads"] = [{**it, "version": reads.get(field(it, "key"), it["version"])} for it in tx["reads"]]
+    if entries is not None:
+        tx["ranges"][0]["entries"] = [{"key": key.hex(), "version": version} for key, version in entries]
+    return tx
+
+
+def settled(rules: int) -> Chain:
+    """A chain that differs by its rules: its calls know what their own block writes, and write keys of others."""
+    chain, (a, b, c) = Chain(rules), (NAMESPACE + it for it in (b"a", b"b", b"c"))
+    everything = (NAMESPACE, b"assets0", 9)
+    chain.add(chain.transaction(writes=[(a, b"1"), (b, b"1")]))
+    now = [(a, "2.0"), (b, "1.0")]
+    chain.add(
+        chain.transaction(reads=[a], writes=[(a, b"2")]),
+        claiming(chain.transaction(reads=[a]), {a: "2.0"}),
+        chain.transaction(reads=[b]),
+        chain.transaction(reads=[a]),
+        claiming(chain.transaction(ranges=[everything]), {}, now),
+        chain.transaction(ranges=[everything]),
+        chain.transaction(writes=[(c, b"1")]),
+        chain.transaction(reads=[c]),
+        chain.transaction(writes=[(c, None)]),
+        chain.transaction(reads=[c]),
+        claiming(chain.transaction(ranges=[(b, b"assets0", 9)]), {}, [(b, "1.0")]),
+        *(chain.transaction(writes=[(NAMESPACE, b"1"), (key, value)])
+          for key, value in ((b"other/a", b"1"), (b"assets2/a", None), (b"assets", b"1"), (b"a", b"1"))))
+    chain.add(chain.transaction(reads=[a], ranges=[everything], writes=[(NAMESPACE + b"d", b"1")]))
     return chain
 
 

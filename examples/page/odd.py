@@ -3,7 +3,8 @@
 Each round hands some envelopes to `./ledger run`, on the state that it printed after the last round. They claim reads,
 ranges and writes that no peer made, name keys that are kept for definitions and the membership, propose upgrades of every
 form, to closed definitions and to open ones, and amendments by which members come, go and change keys, and carry right tags
-and wrong ones of both kinds: one organisation of the genesis file has a shared key, and two have public ones.
+and wrong ones of both kinds: one organisation of the genesis file has a shared key, and two have public ones. Some claim to know
+what the block that they come into writes, and some write keys that are not their chaincode's own, as only rules 1 let them.
 """
 import hashlib
 import hmac
@@ -25,9 +26,6 @@ SHARED_KEY = b"maker's key"
 SEEDS = {name: bytes.fromhex((EXAMPLE_KEYS / f"{name.lower()}.key").read_text()) for name in ("Carrier", "Shop")}
 GENESIS: dict[str, Any] = {**EXAMPLE, "peers": ["Maker"], "count": 40,
                            "orgs": [{"name": "Maker", "key": SHARED_KEY.hex()}, *EXAMPLE["orgs"][1:]]}
-# The genesis file, and what stands in front of what is signed in its ledger, which is under rules 2.
-TEXT = json.dumps(GENESIS)
-FRONT = b"\xfftag " + hashlib.sha256(TEXT.encode()).digest()
 DIGESTS = [hashlib.sha256(bytes.fromhex(it["module"])).hexdigest() for it in EXAMPLE["chaincodes"] + EXAMPLE["modules"]]
 ORGS = [org["name"] for org in GENESIS["orgs"]]
 NAMES = ["assets", "other", "third"]
@@ -36,7 +34,11 @@ MEMBERS = ["Carrier", "Depot", "Maker", "Shop", "a", "a_"]
 LATER = {rfc8032.secret_to_public(seed).hex(): seed for seed in (bytes([number]) * 32 for number in range(1, 5))}
 PUBLICS = {name: rfc8032.secret_to_public(seed).hex() for name, seed in SEEDS.items()}
 NO_KEYS = [make.NO_POINT, make.SMALL_ORDER, "ff" * 32, "00" * 32, "ee" + "ff" * 30 + "7f"]
-SHOWN = [b"a", b"a\0", b"ab", b"b", b"b\xff", b"c", b"\1", b"\xff"]
+# What keys have behind their chaincode's name, and keys of no chaincode.
+RESTS = [b"", b"a", b"a\0", b"ab", b"b\xff", b"c"]
+STRANGE = [b"a", b"assets", b"assets0", b"assets2/a", b"\1", b"\xff"]
+SHOWN = [*(f"{name}/".encode() + rest for name in NAMES for rest in RESTS), *STRANGE]
+BOUNDS = [b"assets/", b"assets/ab", b"assets0", b"b", b"other/", b"other/b", b"other0"]
 POLICIES = [
     "'Maker'", "'Shop'", "OR('Maker','Carrier')", "AND('Maker', 'Shop')", "OutOf( 2 ,'Maker' , 'Carrier','Shop' )",
     "AND('Maker',OR('Carrier','Shop'))", "OutOf(1,AND('Maker','Shop'),'Carrier')", "OutOf(2,'Shop','Shop')",
@@ -49,13 +51,22 @@ NO_POLICIES = [
 ]
 
 
+def genesis_text(rules: int) -> str:
+    """The genesis file of a ledger under these rules."""
+    return json.dumps({name: it for name, it in GENESIS.items() if name != "rules" or rules > 1})
+
+
 class Odd:
     """Envelopes that are made up on a state."""
 
-    def __init__(self, seed: int):
+    def __init__(self, seed: int, rules: int):
         self.chance, self.made = random.Random(seed), 0
-        # The version of each key, and the envelopes so far.
+        # What stands in front of what is signed.
+        self.front = b"\xfftag " + hashlib.sha256(genesis_text(rules).encode()).digest() if rules > 1 else b""
+        # The version of each key before the block that is made; what that may have written so far, and how many envelopes it has.
         self.state: dict[bytes, str] = {}
+        self.ahead: dict[bytes, str | None] = {}
+        self.block, self.place = 1, 0
         self.earlier: list[dict] = []
         # What amendments would put, by its bytes, and what stands.
         self.memberships: dict[bytes, dict] = {}
@@ -63,8 +74,9 @@ class Odd:
         self.members: dict[str, str | None] = dict.fromkeys(ORGS)
 
     def follow(self, entries: list[list[str]]) -> None:
-        """Takes up the state that was printed: each key, its version and its value."""
+        """Takes up the state behind a block that was printed: each key, its version and its value."""
         self.state = {bytes.fromhex(key): version for key, version, _ in entries}
+        self.ahead, self.block, self.place = {}, self.block + 1, 0
         for key, _, value in entries:
             if bytes.fromhex(key) == make.MEMBERSHIP_KEY:
                 amend = self.memberships[bytes.fromhex(value)]
@@ -76,22 +88,28 @@ class Odd:
     def name(self) -> str:
         return self.chance.choices(NAMES, weights=[8, 3, 1])[0]
 
+    def guessed(self) -> dict[bytes, str]:
+        """The state before the block; or, now and then, what it may be by now."""
+        if self.often(0.8):
+            return self.state
+        return {key: version for key, version in {**self.state, **self.ahead}.items() if version is not None}
+
     def version(self, key: bytes) -> str | None:
         """The key's version, or now and then another."""
         if self.often(0.95):
-            return self.state.get(key)
+            return self.guessed().get(key)
         return self.chance.choice([None, "1.0", "1.1", *self.state.values()])
 
     def ranges(self) -> list[dict]:
         ranges = []
         for _ in range(self.chance.choice([0, 0, 0, 1, 1, 2])):
-            start = self.chance.choice([b"", b"\0", b"a", b"\0zz", b"ab", b"c"])
-            end = self.chance.choice([b"", b"b", b"a", b"c\xff", b"\xff\xff"])
-            limit = self.chance.choice([1, 2, 3, 64])
-            keys = sorted(key for key in self.state if key[0] and start <= key and (not end or key < end))[:limit]
+            start = self.chance.choice([b"", b"\0", b"\0zz", *BOUNDS])
+            end = self.chance.choice([b"", b"\xff\xff", *BOUNDS])
+            limit, state = self.chance.choice([1, 2, 3, 64]), self.guessed()
+            keys = sorted(key for key in state if key[0] and start <= key and (not end or key < end))[:limit]
             if not self.often(0.9) and keys:
                 keys.pop(self.chance.randrange(len(keys)))
-            entries = [{"key": key.hex(), "version": self.state[key]} for key in keys]
+            entries = [{"key": key.hex(), "version": state[key]} for key in keys]
             ranges.append({"start": start.hex(), "end": end.hex(), "limit": limit, "entries": entries})
         return ranges
 
@@ -107,14 +125,14 @@ class Odd:
         seed = self.chance.choice([*SEEDS.values(), *LATER.values(), bytes(32)])
         return self.chance.choice([
             bytes(32), bytes(64), hmac.digest(SHARED_KEY, payload, "sha256"), rfc8032.sign(seed, payload),
-            rfc8032.sign(seed, FRONT + payload),
+            rfc8032.sign(seed, self.front + payload),
             self.tag_under(org, None, payload), hmac.digest(rfc8032.secret_to_public(seed), payload, "sha256"),
             self.tag_under(org, self.members.get(org), payload + b"\0")])
 
     def tag_under(self, org: str, public: str | None, payload: bytes) -> bytes:
         """A tag under a public key of later, or under the genesis file's key."""
         seed = LATER.get(public or "") or SEEDS.get(org)
-        return rfc8032.sign(seed, FRONT + payload) if seed else hmac.digest(SHARED_KEY, payload, "sha256")
+        return rfc8032.sign(seed, self.front + payload) if seed else hmac.digest(SHARED_KEY, payload, "sha256")
 
     def endorsed(self, tx: dict) -> dict:
         """The transaction with tags, of which some are wrong, of nobody or there twice."""
@@ -130,7 +148,9 @@ class Odd:
         name = self.name()
         own = b"\0" + name.encode()
         reads = {*self.chance.sample(SHOWN, self.chance.randrange(3)), *([own] if self.often(0.95) else [])}
-        writes = set(self.chance.sample(SHOWN, self.chance.randrange(3)))
+        writes = {f"{name}/".encode() + rest for rest in self.chance.sample(RESTS, self.chance.randrange(3))}
+        if not self.often(0.9):
+            writes.add(self.chance.choice(SHOWN))
         if not self.often(0.93):
             self.chance.choice([reads, writes]).add(b"\0" + self.chance.choice(["", *NAMES]).encode())
         return {"chaincode": name, "arg": (b"call %d" % self.made).hex(), "nonce": "%032x" % self.made, "result": "",
@@ -202,6 +222,14 @@ class Odd:
         self.earlier.append(tx)
         return tx
 
+    def next(self) -> dict:
+        """The next envelope of the block, which may be VALID."""
+        tx = self.envelope()
+        for it in tx["writes"]:
+            self.ahead[bytes.fromhex(it["key"])] = None if it["value"] is None else f"{self.block}.{self.place}"
+        self.place += 1
+        return tx
+
 
 def run(room: pathlib.Path, lines: list[dict], store: pathlib.Path) -> list[str]:
     """What `./ledger run` prints on these lines."""
@@ -211,15 +239,15 @@ def run(room: pathlib.Path, lines: list[dict], store: pathlib.Path) -> list[str]
     return subprocess.run(command, stdout=subprocess.PIPE, stderr=subprocess.DEVNULL, text=True).stdout.splitlines()
 
 
-def odd_chain(room: pathlib.Path, rounds: int, seed: int) -> list[str]:
+def odd_chain(room: pathlib.Path, rounds: int, seed: int, rules: int) -> list[str]:
     """Writes a genesis file and a store into a folder. Returns what `run` printed."""
-    odd = Odd(seed)
+    odd = Odd(seed, rules)
     lines: list[dict] = []
     printed: list[str] = []
-    (room / "odd_genesis.json").write_text(TEXT)
+    (room / "odd_genesis.json").write_text(genesis_text(rules))
     for _ in range(rounds):
         for _ in range(GENESIS["count"]):
-            lines += [{"do": "submit", "hex": make.envelope_bytes(odd.envelope()).hex()}, {"do": "take"}]
+            lines += [{"do": "submit", "hex": make.envelope_bytes(odd.next()).hex()}, {"do": "take"}]
         lines.append({"do": "commit", "peer": 0})
         printed = run(room, lines, room / "odd.store")
         odd.follow([line.split()[1:] for line in printed if line.startswith("state ")])
