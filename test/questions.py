@@ -3,8 +3,8 @@
 
     test/questions.py CHAINS
 
-asks about so many chains. They are those of the page's test (examples/page/odd.py): odd calls, upgrades and amendments, of
-which many are refused.
+asks about so many chains, every second of which is under rules 2. They are those of the page's test (examples/page/odd.py): odd
+calls, upgrades and amendments, of which many are refused.
 """
 import json
 import os
@@ -32,6 +32,7 @@ BAD = [
     '{"ask":"call","chaincode":"assets","arg":"","args":[]}', '{"ask":"call","chaincode":"assets","args":["list",1]}',
 ]
 RANGES = [("", "", 1000), ("", "", 1), ("61", "", 3), ("", "62", 1000), ("6100", "63", 2), ("00", "", 1000), ("00", "0061", 5), ("63", "61", 9)]
+RANGES += [("6173736574732f", "61737365747330", 1000), ("6173736574732f61", "6f746865722f", 2)]
 ORGS: list[list[str]] = [
     [], ["Maker"], ["Shop"], ["Maker", "Carrier"], ["Carrier", "Shop"], ["Maker", "Carrier", "Shop", "Nobody"]]
 ARGUMENTS = ["", "726561642070616c6c65742d37", "6c697374"]
@@ -155,7 +156,8 @@ def try_questions(report: Report, tree: pathlib.Path, room: pathlib.Path, env: d
         at = room / f"chain{seed}"
         at.mkdir()
         store, growing = at / "odd.store", at / "growing.store"
-        odd.odd_chain(at, ROUNDS - 1, seed)
+        rules = 1 + seed % 2
+        odd.odd_chain(at, ROUNDS - 1, seed, rules)
         growing.write_bytes(store.read_bytes())
         genesis = at / "odd_genesis.json"
         command: list[str | pathlib.Path] = [tree / "ledger", "peer", genesis, growing]
@@ -165,7 +167,7 @@ def try_questions(report: Report, tree: pathlib.Path, room: pathlib.Path, env: d
             half = Asked(tree, genesis, growing, env)
             report.case(f"chain {seed}: its height", process.stdout.readline() == f"height {len(half.blocks)}\n")
             try_chain(report, f"chain {seed}", half, process)
-            odd.odd_chain(at, ROUNDS, seed)
+            odd.odd_chain(at, ROUNDS, seed, rules)
             whole = Asked(tree, genesis, store, env)
             report.case(f"chain {seed}: the log is read", has_read(process, whole.printed("marks", str(store)).splitlines()))
             is_same = growing.read_bytes() == store.read_bytes()

@@ -296,7 +296,9 @@ def outcome(name: str, genesis: dict, blocks: list[dict], at_hand: Modules) -> d
     if definition["module"] != PUTS:
         version = next((it["version"] for it in entries_of(blocks) if it["key"] == "61"), None)
         reads.append({"key": "61", "version": version})
-    return {"ranges": [], "reads": reads, "result": "", "writes": [{"key": "61", "value": "31"}]}
+    # Under rules 2 the key is none of the chaincode's own, and the module does not look at the answer.
+    writes = [{"key": "61", "value": "31"}] if genesis["rules"] == 1 else []
+    return {"ranges": [], "reads": reads, "result": "", "writes": writes}
 
 
 def is_satisfied(policy: str, orgs: list[str]) -> bool:
