@@ -190,9 +190,11 @@ class Run:
         return f"{self.used()} of {self.given} fuel used"
 
     def sentence(self) -> str:
-        """How it ended, with what it had set as its result, and what tells more."""
+        """How it ended, with what it had set as its result and a key that it may not write, and what tells more."""
         said = f", and said: {shown(self.fabric.result)}" if self.fabric.result else ""
-        return f"the chaincode {self.end}{said}; {self.fuel()}; `ledger debug` shows where"
+        outside, front = self.fabric.outside, self.fabric.namespace.decode()
+        refused = f"; it may not write {shown(outside)}, which does not begin with {front}" if outside else ""
+        return f"the chaincode {self.end}{said}{refused}; {self.fuel()}; `ledger debug` shows where"
 
     def answer(self) -> dict[str, Any]:
         """What the program has to answer to the call."""

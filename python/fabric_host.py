@@ -43,6 +43,8 @@ class Fabric:
         self.reads: dict[bytes, Entry | None] = {}
         self.ranges: list[Range] = []
         self.writes: dict[bytes, bytes | None] = {}
+        # The first key that was to be written and is not in the namespace.
+        self.outside: bytes | None = None
 
     def answer(self, call: Call, arguments: list[int], memory: Memory) -> int:
         return CALLS[call.function.name](self, call, arguments, memory)
@@ -73,7 +75,10 @@ class Fabric:
 
     def record(self, key: bytes, value: bytes | None) -> int:
         """Records a write."""
-        if not is_key(key) or not key.startswith(self.namespace):
+        if not is_key(key):
+            return BAD_KEY
+        if not key.startswith(self.namespace):
+            self.outside = self.outside or key
             return BAD_KEY
         if value is not None and len(value) > LONGEST_VALUE:
             return BAD_LENGTH

@@ -144,7 +144,7 @@ def try_calls(report: Report, tree: pathlib.Path, room: pathlib.Path, env: dict[
         ran = at.call(*words)
         is_told = ran.status == 2 and not ran.out and told in ran.err.splitlines()[-1]
         at.case(f"words that name no call: {words!a}"[:80], is_told and ran.err.startswith("usage: ledger call GENESIS"), ran)
-    words = ["--chaincode", f"assets={tree}/examples/chaincode/asset_register.wasm"]
+    words = [it for name in ("assets", "others") for it in ("--chaincode", f"{name}={tree}/examples/chaincode/asset_register.wasm")]
     words += [it for name in (*ENDS, "says") for it in ("--chaincode", f"{name}={name}.wasm")]
     ran = at.ledger("new", "net", *words, "--policy", POLICY)
     at.case("a network is made", ran.status == 0, ran)
@@ -201,6 +201,8 @@ def try_ends(at: Calls) -> None:
     told = f"the chaincode returned the status 7; 1 of 10000 fuel used{shows} (404)"
     at.is_refused("a status", "refused 404 status 7", told, *files, "seven", *keys)
     at.is_refused("a status with a result", "refused 404 status 4", "the status 4, and said: not yet; 69 of 10000 fuel used", *files, "says", *keys)
+    told = "the status 1; it may not write assets/asset/x, which does not begin with others/; "
+    at.is_refused("a key of another's", "refused 404 status 1", told, *files, "others", "create", "x", "y", *keys)
     delete = [*files, "assets", "delete", "pallet-7", "--keys", "net/Shop/key"]
     told = f"assets needs {POLICY}; the seeds in net/Shop/key are those of Shop (808)"
     at.is_refused("a key short", "refused 808", told, *delete)

@@ -92,7 +92,8 @@ class Odd:
         """The state before the block; or, now and then, what it may be by now."""
         if self.often(0.8):
             return self.state
-        return {key: version for key, version in {**self.state, **self.ahead}.items() if version is not None}
+        untouched = {key: version for key, version in self.state.items() if key not in self.ahead}
+        return untouched | {key: version for key, version in self.ahead.items() if version is not None}
 
     def version(self, key: bytes) -> str | None:
         """The key's version, or now and then another."""
