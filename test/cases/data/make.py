@@ -824,7 +824,7 @@ for number, named in enumerate(("one", "two", "three"), 1):
     genesis(f"rules-{named}.json", rules=number)
 write("setting.lines", asks({"ask": "setting"}))
 past = enumerate((65536, 4000000000, 4000000001), 1)
-write("rules.log", log(envelope(call(nonce, reads=[(b"a", (block, 0))], writes=puts(b"a"))).hex() for nonce, block in past))
+write("rules.log", log(envelope(call(nonce, reads=[(b"a", (block, 0))], writes=puts(b"kv/a"))).hex() for nonce, block in past))
 calls = [{"chaincode": name, "arg": ""} for name in ("status", "trap", "zero", "kv")]
 # By texts; and by both, by a number among the texts, by no list, by a list as hex, and by more bytes than there may be.
 calls += [{"chaincode": "kv", "args": texts} for texts in (["a", "b"], [])]
