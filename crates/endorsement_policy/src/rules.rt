@@ -35,7 +35,7 @@ pub struct Rules {
 }
 
 impl Model for Rules {
-    ghost use Rattle.std.specs.Prelude.{◌≡◌, true};
+    ghost use Rattle.std.specs.Prelude.{◌≡◌, true, length};
     ghost use Rattle.org_keys.specs.Ledgers.{are_keys_of};
     ghost use Rattle.endorsement_policy.specs.Listed.{Listed, do_need_someone};
     ghost use Rattle.policy_language.specs.GoodSets.{needs_someone};
@@ -57,7 +57,8 @@ impl Model for Rules {
 
     ghost invariant = { λ r. (do_need_someone r.policies.items ≡ true) ×
         (needs_someone r.upgrade ≡ true) ×
-        (are_keys_of r.edition r.ledger r.installed.orgs ≡ true) };
+        (are_keys_of r.edition r.ledger r.installed.orgs ≡ true) ×
+        (length r.ledger ≡ 32) };
 }
 
 /// Whether the policy needs at least one endorsement.
