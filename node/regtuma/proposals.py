@@ -126,7 +126,7 @@ def bound_of(text: str, name: str) -> str:
 
 
 def number_of(text: str, name: str, least: int, most: int) -> int:
-    is_short = text.isascii() and text.isdigit() and len(text) < 10
+    is_short = text.isascii() and text.isdigit() and len(text) <= 10
     check(is_short and least <= int(text) <= most, f"{name} is a whole number from {least} to {most}")
     return int(text)
 
