@@ -38,7 +38,7 @@ NO_KEYS = [make.NO_POINT, make.SMALL_ORDER, "ff" * 32, "00" * 32, "ee" + "ff" * 
 RESTS = [b"", b"a", b"a\0", b"ab", b"b\xff", b"c"]
 STRANGE = [b"a", b"assets", b"assets0", b"assets2/a", b"\1", b"\xff"]
 SHOWN = [*(f"{name}/".encode() + rest for name in NAMES for rest in RESTS), *STRANGE]
-BOUNDS = [b"assets/", b"assets/ab", b"assets0", b"b", b"other/", b"other/b", b"other0"]
+BOUNDS = [b"assets/", b"assets/ab", b"assets/b", b"assets0", b"b", b"other/", b"other0"]
 POLICIES = [
     "'Maker'", "'Shop'", "OR('Maker','Carrier')", "AND('Maker', 'Shop')", "OutOf( 2 ,'Maker' , 'Carrier','Shop' )",
     "AND('Maker',OR('Carrier','Shop'))", "OutOf(1,AND('Maker','Shop'),'Carrier')", "OutOf(2,'Shop','Shop')",
@@ -63,7 +63,7 @@ class Odd:
         self.chance, self.made = random.Random(seed), 0
         # What stands in front of what is signed.
         self.front = b"\xfftag " + hashlib.sha256(genesis_text(rules).encode()).digest() if rules > 1 else b""
-        # The version of each key before the block that is made; what that may have written so far, and how many envelopes it has.
+        # The version of each key before the block that is made; what that has most likely written so far, and how many envelopes it has.
         self.state: dict[bytes, str] = {}
         self.ahead: dict[bytes, str | None] = {}
         self.block, self.place = 1, 0
@@ -89,8 +89,8 @@ class Odd:
         return self.chance.choices(NAMES, weights=[8, 3, 1])[0]
 
     def guessed(self) -> dict[bytes, str]:
-        """The state before the block; or, now and then, what it may be by now."""
-        if self.often(0.8):
+        """The state before the block; or, now and then, what it most likely is by now."""
+        if self.often(0.7):
             return self.state
         untouched = {key: version for key, version in self.state.items() if key not in self.ahead}
         return untouched | {key: version for key, version in self.ahead.items() if version is not None}
@@ -143,6 +143,19 @@ class Odd:
         for org in self.chance.choices(names, weights=[6, 6, 6, 1] + [3] * (len(names) - 4), k=count):
             tags.append({"org": org, "tag": self.tag(org, payload).hex()})
         self.made += 1
+        return {**tx, "endorsements": tags}
+
+    def plain(self) -> dict:
+        """A call that is most likely VALID: it writes a key of its own and reads none, and all who stand endorse it."""
+        own, put = b"\0assets", self.writes({b"assets/" + self.chance.choice(RESTS)})
+        tx: dict[str, Any] = {
+            "chaincode": "assets", "arg": (b"plain %d" % self.made).hex(), "nonce": "%032x" % self.made, "result": "",
+            "reads": [{"key": own.hex(), "version": self.state.get(own)}], "ranges": [], "writes": put}
+        payload = make.payload_bytes(tx)
+        tags = [{"org": org, "tag": self.tag_under(org, public, payload).hex()} for org, public in self.members.items()]
+        self.made += 1
+        for it in put:
+            self.ahead[bytes.fromhex(it["key"])] = None if it["value"] is None else f"{self.block}.{self.place}"
         return {**tx, "endorsements": tags}
 
     def call(self) -> dict:
@@ -219,15 +232,13 @@ class Odd:
         if self.earlier and not self.often(0.96):
             return self.chance.choice(self.earlier)
         propose = self.chance.choices([self.call, self.upgrade, self.amendment], weights=[15, 4, 3])[0]
-        tx = self.endorsed(propose())
+        tx = self.endorsed(propose()) if self.often(0.8) else self.plain()
         self.earlier.append(tx)
         return tx
 
     def next(self) -> dict:
-        """The next envelope of the block, which may be VALID."""
+        """The next envelope of the block."""
         tx = self.envelope()
-        for it in tx["writes"]:
-            self.ahead[bytes.fromhex(it["key"])] = None if it["value"] is None else f"{self.block}.{self.place}"
         self.place += 1
         return tx
 
