@@ -2,8 +2,6 @@ use Rattle.std.proofs.Common.{◌≤◌, ◌∷◌, [], List, length, ap, arith,
 use Rattle.std.specs.Vec.{vec_capacity}
 use Rattle.std.proofs.lemmas.List.{length-append, length-map}
 use Rattle.batch_cutter.specs.Division.{message}
-use Rattle.fab_types.specs.Editions.{last_block}
-use Rattle.fab_types.specs.declared.edition.Edition.{Edition}
 use Rattle.orderer.specs.Ordering.{Takes}
 use Rattle.orderer.specs.declared.making.Made.{Made}
 use Rattle.orderer.specs.declared.report.BatchReport.{BatchReport}
@@ -79,7 +77,7 @@ returns-in-Ok-accept c =
       answers = (
         subst (λ (rs : List BatchReport). Takes old (message e) rs new) (sym told.2) takes,
         λ large. omega (arith, large, c.in-Ok-accept.ensures.size),
-        subst (λ (d : Edition). length new.chain ≤ last_block d) takes.edition c.in-Ok-accept.ensures.numbers,
+        c.in-Ok-accept.ensures.numbers,
       );
       ids = λ line is. (e, is, c.in-Ok.ensures.id, named);
       blocks = record { chain = handed.0; own = handed.1 };
