@@ -4,5 +4,6 @@ pub mod Changes
 pub mod Found
 pub mod KeyFiles
 pub mod Printing
+pub mod RefusedTexts
 pub mod SharedBlocks
 pub mod Silence
