@@ -104,7 +104,7 @@ class Odd:
     def ranges(self) -> list[dict]:
         ranges = []
         for _ in range(self.chance.choice([0, 0, 0, 1, 1, 2])):
-            start = self.chance.choice([b"", b"\0", b"\0zz", *BOUNDS])
+            start = self.chance.choice([b"", b"\0", b"\0zz", *BOUNDS, *sorted(self.ahead)])
             end = self.chance.choice([b"", b"\xff\xff", *BOUNDS])
             limit, state = self.chance.choice([1, 2, 3, 64]), self.guessed()
             keys = sorted(key for key in state if key[0] and start <= key and (not end or key < end))[:limit]
@@ -162,6 +162,8 @@ class Odd:
         name = self.name()
         own = b"\0" + name.encode()
         reads = {*self.chance.sample(SHOWN, self.chance.randrange(3)), *([own] if self.often(0.95) else [])}
+        if self.ahead and not self.often(0.7):
+            reads.add(self.chance.choice(sorted(self.ahead)))
         writes = {f"{name}/".encode() + rest for rest in self.chance.sample(RESTS, self.chance.randrange(3))}
         if not self.often(0.9):
             writes.add(self.chance.choice(SHOWN))
