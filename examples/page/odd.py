@@ -88,12 +88,14 @@ class Odd:
     def name(self) -> str:
         return self.chance.choices(NAMES, weights=[8, 3, 1])[0]
 
-    def guessed(self) -> dict[bytes, str]:
-        """The state before the block; or, now and then, what it most likely is by now."""
-        if self.often(0.7):
-            return self.state
+    def now(self) -> dict[bytes, str]:
+        """What the state most likely is by now."""
         untouched = {key: version for key, version in self.state.items() if key not in self.ahead}
         return untouched | {key: version for key, version in self.ahead.items() if version is not None}
+
+    def guessed(self) -> dict[bytes, str]:
+        """The state before the block; or, now and then, what it most likely is by now."""
+        return self.state if self.often(0.7) else self.now()
 
     def version(self, key: bytes) -> str | None:
         """The key's version, or now and then another."""
@@ -145,16 +147,24 @@ class Odd:
         self.made += 1
         return {**tx, "endorsements": tags}
 
+    def known(self) -> list[dict]:
+        """A range of the first key from one on that the block has most likely written; or none."""
+        if not self.ahead or self.often(0.6):
+            return []
+        start, state = self.chance.choice(sorted(self.ahead)), self.now()
+        entries = [{"key": key.hex(), "version": state[key]} for key in sorted(state) if key[0] and start <= key]
+        return [{"start": start.hex(), "end": "", "limit": 1, "entries": entries[:1]}]
+
     def plain(self) -> dict:
-        """A call that is most likely VALID: it writes a key of its own and reads none, and all who stand endorse it."""
-        own, put = b"\0assets", self.writes({b"assets/" + self.chance.choice(RESTS)})
+        """A call that is most likely VALID, unless it knows what its block writes: all who stand endorse it."""
+        own, put, ranges = b"\0assets", self.writes({b"assets/" + self.chance.choice(RESTS)}), self.known()
         tx: dict[str, Any] = {
             "chaincode": "assets", "arg": (b"plain %d" % self.made).hex(), "nonce": "%032x" % self.made, "result": "",
-            "reads": [{"key": own.hex(), "version": self.state.get(own)}], "ranges": [], "writes": put}
+            "reads": [{"key": own.hex(), "version": self.state.get(own)}], "ranges": ranges, "writes": put}
         payload = make.payload_bytes(tx)
         tags = [{"org": org, "tag": self.tag_under(org, public, payload).hex()} for org, public in self.members.items()]
         self.made += 1
-        for it in put:
+        for it in put if not ranges else []:
             self.ahead[bytes.fromhex(it["key"])] = None if it["value"] is None else f"{self.block}.{self.place}"
         return {**tx, "endorsements": tags}
 
