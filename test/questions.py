@@ -77,7 +77,9 @@ def called(answer: dict) -> str:
 def questions(asked: Asked) -> Iterator[tuple[dict, object]]:
     """Questions about a chain, and the answers that the other commands give."""
     yield {"ask": "setting"}, asked.setting
-    yield {"ask": "members"}, asked.lines("state", "--members")[0]
+    members = asked.lines("state", "--members")[0]
+    standing = {it["name"] for it in members["members"]}
+    yield {"ask": "members"}, members
     for number in range(1, len(asked.blocks) + 2):
         yield {"ask": "block", "number": number}, (asked.blocks + [None])[number - 1]
     for entry in asked.state:
@@ -102,7 +104,7 @@ def questions(asked: Asked) -> Iterator[tuple[dict, object]]:
     for chaincode in ("assets", "other", "none"):
         policy = asked.policy(chaincode)
         for orgs in ORGS:
-            test = policy and re.sub("'([^']*)'", lambda it: str(it[1] in orgs), policy)
+            test = policy and re.sub("'([^']*)'", lambda it: str(it[1] in standing.intersection(orgs)), policy)
             yield {"ask": "satisfied", "chaincode": chaincode, "orgs": orgs}, test and eval(test.strip(), dict(WORDS))
 
 
