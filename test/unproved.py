@@ -16,8 +16,8 @@ from program import NoProgram, is_current, kept, unproved_of
 CRATES = ROOT / "crates"
 # So many bytes of memory a compiler of the largest program takes at most, with what it runs beside. It takes two cores.
 OF_A_COMPILER = 8 << 30
-# How long the lines of a program, or a test, may take, in seconds.
-SECONDS = 550
+# How long the lines of a program, or a test, may take, in seconds: a test that orders 131,072 blocks takes some minutes.
+SECONDS = 1100
 # The case lines of a program are answered in so many pieces: no line knows of those before it.
 PIECES = 4
 # A crate, and the flags of `rt try` by which it is compiled.
