@@ -10,6 +10,7 @@
 mod ids;
 mod index;
 mod judged;
+mod past;
 mod ranges;
 mod shared_blocks;
 mod snapshot;
@@ -18,6 +19,7 @@ mod writes;
 
 pub use ids::{TxIds, add_id, tx_ids};
 pub use judged::Judged;
-pub use ranges::{first_entries, range_of};
+pub use past::Past;
+pub use ranges::{first_entries, range_in, range_of};
 pub use snapshot::Snapshot;
-pub use writes::StateMap;
+pub use writes::{StateMap, apply_block};

@@ -154,6 +154,13 @@ impl Snapshot {
         self.blocks.last_amending(height)
     }
 
+    /// The state as a map. It takes no memory.
+    pub fn map(&self) -> &StateMap
+        ensures { as_state result.now.entries ≡ state (history self.now) }
+    {
+        &self.map
+    }
+
     /// Each key of the state with its value and version, in key order. The error is of memory.
     pub fn entries(&self, alloc: Global) -> Result<Vec<(&Key, &(Value, Version))>, AllocError>
         ensures { IfOk result (λ v. map deref_pair v.items ≡ entries (state (history self.now))) }
