@@ -1,16 +1,12 @@
 -- Which block fits at the end of a chain.
-use Rattle.std.specs.Prelude.{◌≡◌, ◌≢◌, ◌<◌, List, map, length}
+use Rattle.std.specs.Prelude.{◌≡◌, ◌≢◌, ◌<◌, List, length}
 use Rattle.sha2.specs.Sha256.{sha256}
 use Rattle.fab_types.specs.declared.block.Block.{Block}
 use Rattle.fab_types.specs.BlockSpelling.{data_bytes}
 use Rattle.wire.specs.Links.{next_link, next_number}
-use Rattle.ledger_model.specs.Chain.{Chain}
+pub use Rattle.world_state.specs.Kept.{blocks_of}
 use Rattle.committer.specs.declared.refusal.CommitRefusal.{CommitRefusal}
 use Rattle.committer.specs.declared.refusal.CommitRefusal.TheVariants.{Number, PreviousHash, DataHash, AtEnd, Memory}
-
--- the blocks without their flags
-abbrev pub blocks_of : Chain → List Block
-blocks_of chain = map (λ c. c.block) chain
 
 -- there is room, and the block has the next number, names the hash of the last header, and says the hash of its data
 pub record Fits (blocks : List Block) (block : Block) : Type 0 where

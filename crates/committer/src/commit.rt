@@ -1,48 +1,39 @@
 //! Whether a block is the next one of a chain, and its commit.
 
-ghost use Rattle.std.specs.Prelude.{◌≡◌, ◌≢◌, ◌-◌, ◌++◌, ◌∷◌, [], length, option_map, slice_get, IfOk, OnOk, IfErr};
-ghost use Rattle.ledger_model.specs.Chain.{history};
+ghost use Rattle.std.specs.Prelude.{◌≡◌, ◌≢◌, ◌++◌, ◌∷◌, [], length, IfOk, OnOk, IfErr};
+ghost use Rattle.ledger_model.specs.Chain.{Chain, history};
 ghost use Rattle.ledger_model.specs.Flags.{flags_told};
 ghost use Rattle.wire.specs.Ids.{id_of};
 ghost use Rattle.committer.specs.declared.refusal.CommitRefusal.TheVariants.{Memory};
 ghost use Rattle.world_state.specs.Judging.{IsOf};
+ghost use Rattle.world_state.specs.Kept.{IsKeptOf};
 ghost use Rattle.committer.specs.Fits.{blocks_of, Fits, IsNext, IsRefused};
 
 use crate::refusal::CommitRefusal;
 use fab_types::limits::LAST_BLOCK;
 use fab_types::{Block, Edition};
-use mvcc_validate::flag_block;
+use mvcc_validate::flag_behind;
 use std::alloc::{AllocError, Global};
-use wire::{data_hash, next_link};
-use world_state::{Judged, Snapshot};
-
-/// The last block. None where there is none.
-fn last_block(snapshot: &Snapshot) -> Option<&Block>
-    ensures { let blocks = blocks_of snapshot.now in
-        option_map (λ b. b.now) result ≡ slice_get blocks (length blocks - 1) }
-{
-    match snapshot.last() {
-        None => None,
-        Some(committed) => Some(committed.block()),
-    }
-}
+use wire::data_hash;
+use world_state::{Judged, Past, Snapshot};
 
 /// Tests what takes no memory: whether there is room for a block, and then its number and the hash
 /// that it names.
-fn check_next(snapshot: &Snapshot, block: &Block) -> Result<(), CommitRefusal>
-    ensures next { OnOk result (IsNext (blocks_of snapshot.now) block.now) }
-    ensures refused { IfErr result
-        (λ refusal. (refusal ≢ Memory) ×
-        IsRefused refusal (blocks_of snapshot.now) block.now) }
+fn check_next<P: Past>(past: &P, block: &Block) -> Result<(), CommitRefusal>
+    ensures next { (chain : Chain) → IsKeptOf (P.kept past.now) chain →
+        OnOk result (IsNext (blocks_of chain) block.now) }
+    ensures refused { (chain : Chain) → IsKeptOf (P.kept past.now) chain →
+        IfErr result
+        (λ refusal. (refusal ≢ Memory) × IsRefused refusal (blocks_of chain) block.now) }
 {
-    let height = snapshot.height();
-    if height == LAST_BLOCK as usize {
+    let height = past.height();
+    if height == LAST_BLOCK {
         return Err(CommitRefusal::AtEnd);
     }
-    if block.header.number.get() != height as u32 + 1 {
+    if block.header.number.get() != height + 1 {
         return Err(CommitRefusal::Number);
     }
-    if block.header.previous_hash != next_link(last_block(snapshot)) {
+    if block.header.previous_hash != past.link() {
         return Err(CommitRefusal::PreviousHash);
     }
     Ok(())
@@ -66,7 +57,21 @@ pub fn check_fits(alloc: Global, snapshot: &Snapshot, block: &Block) -> Result<(
     ensures refused { IfErr result
         (λ refusal. IsRefused refusal (blocks_of snapshot.now) block.now) }
 {
-    check_next(snapshot, block)?;
+    check_fits_behind(alloc, snapshot, block)
+}
+
+/// Tests whether a block fits behind a chain, as `check_fits` says of a snapshot.
+pub fn check_fits_behind<P: Past>(
+    alloc: Global,
+    past: &P,
+    block: &Block,
+) -> Result<(), CommitRefusal>
+    ensures fits { (chain : Chain) → IsKeptOf (P.kept past.now) chain →
+        OnOk result (Fits (blocks_of chain) block.now) }
+    ensures refused { (chain : Chain) → IsKeptOf (P.kept past.now) chain →
+        IfErr result (λ refusal. IsRefused refusal (blocks_of chain) block.now) }
+{
+    check_next(past, block)?;
     if block.header.data_hash != data_hash(alloc, &block.envelopes)? {
         return Err(CommitRefusal::DataHash);
     }
@@ -94,8 +99,31 @@ pub fn judge_told(
     ensures refused { IfErr result
         (λ refusal. IsRefused refusal (blocks_of snapshot.now) block.now) }
 {
-    check_fits(alloc, snapshot, block)?;
-    Ok(flag_block(alloc, edition, snapshot, block, endorsed)?)
+    judge_behind(alloc, edition, snapshot, block, endorsed)
+}
+
+/// What a block that fits behind a chain is judged to be, as `judge_told` says of a snapshot.
+pub fn judge_behind<P: Past>(
+    alloc: Global,
+    edition: Edition,
+    past: &P,
+    block: &Block,
+    endorsed: &[bool],
+) -> Result<Judged, CommitRefusal>
+    requires one_each { length endorsed.now ≡ length block.now.envelopes }
+    ensures flags { (chain : Chain) → IsKeptOf (P.kept past.now) chain →
+        IfOk result
+        (λ judged. judged.flags.items
+        ≡ flags_told edition id_of (history chain) (history chain) block.now.header.number 0
+        block.now.envelopes endorsed.now) }
+    ensures of { IfOk result (λ judged. IsOf block.now judged) }
+    ensures fits { (chain : Chain) → IsKeptOf (P.kept past.now) chain →
+        OnOk result (Fits (blocks_of chain) block.now) }
+    ensures refused { (chain : Chain) → IsKeptOf (P.kept past.now) chain →
+        IfErr result (λ refusal. IsRefused refusal (blocks_of chain) block.now) }
+{
+    check_fits_behind(alloc, past, block)?;
+    Ok(flag_behind(alloc, edition, past, block, endorsed)?)
 }
 
 /// The snapshot after one block more, with the flags of its transactions. `snapshot` stays as it

@@ -4,7 +4,10 @@ use denote.Ref.{NamedLft}
 use Rattle.std.proofs.Crossing.{crosses}
 use Rattle.fab_types.proofs.name.Name.TheSendSync as name
 use Rattle.fab_types.proofs.org_name.OrgName.TheSendSync as org_name
-use Rattle.world_state.proofs.snapshot.Snapshot.TheSendSync as snapshot
+use Rattle.fab_types.proofs.key.Key.TheSendSync as key
+use Rattle.fab_types.proofs.value.Value.TheSendSync as value
+use Rattle.fab_types.proofs.version.Version.TheSendSync as version
+use Rattle.persist_map.proofs.map.PMap.TheSendSync as pages
 use Rattle.policy_language.proofs.policy.Policies.TheLaws.TheKnot as policy_knot
 use Rattle.policy_language.specs.contracts.policy.Policy as policy_type
 use Rattle.org_keys.proofs.organisation.Organisation.TheSendSync as organisation
@@ -38,4 +41,4 @@ sync_standing : (ℓ : NamedLft) → IsSync (standing_type.the_row ℓ)
 sync_standing ℓ = search (sendable, crosses, sync_rules, sync_amended) depth 30
 
 pub sync_judge : (ℓ : NamedLft) → IsSync (judge_type.the_row ℓ)
-sync_judge ℓ = search (sendable, crosses, sync_rules, sync_standing, snapshot.the_sync, sync_known) depth 30
+sync_judge ℓ = search (sendable, crosses, sync_rules, sync_standing, key.the_sync, value.the_sync, version.the_sync, pages.the_sync, sync_known) depth 30

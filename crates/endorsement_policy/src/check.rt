@@ -4,14 +4,16 @@ ghost use Rattle.std.specs.Prelude.{◌≡◌, IfOk, length, map, take};
 ghost use Rattle.ledger_model.specs.Chain.{history};
 ghost use Rattle.ledger_model.specs.State.{state};
 ghost use Rattle.endorsement_policy.specs.Endorsed.{is_endorsed, right_orgs};
-ghost use Rattle.endorsement_policy.specs.Judge.{judges, orgs_behind};
+ghost use Rattle.endorsement_policy.specs.Membership.{listed_in};
+ghost use Rattle.endorsement_policy.specs.Judge.{judges, orgs_behind, plain_in};
+ghost use Rattle.world_state.specs.Writing.{as_state};
 
 use crate::judge::Judge;
 use crate::rules::Rules;
 use fab_types::Envelope;
 use policy_language::OrgSet;
 use std::alloc::{AllocError, Global};
-use world_state::Snapshot;
+use world_state::{Snapshot, StateMap};
 
 /// Whether an envelope is endorsed in a state. The only error is want of memory.
 ///
@@ -30,7 +32,21 @@ pub fn is_endorsed(
     ensures { IfOk result
         (λ b. b ≡ is_endorsed rules.now (state (history snapshot.now)) envelope.now) }
 {
-    let judge = Judge::new(alloc, rules, snapshot, &[])?;
+    is_endorsed_in(alloc, rules, snapshot.map(), envelope)
+}
+
+/// Whether an envelope is endorsed in a state, as `is_endorsed` says of that of a snapshot. The only
+/// error is want of memory.
+pub fn is_endorsed_in(
+    alloc: Global,
+    rules: &Rules,
+    state: &StateMap,
+    envelope: &Envelope,
+) -> Result<bool, AllocError>
+    ensures { IfOk result
+        (λ b. b ≡ is_endorsed rules.now (as_state state.now.entries) envelope.now) }
+{
+    let judge = Judge::new(alloc, rules, state, &[])?;
     let answer = judge.is_endorsed(alloc, envelope, None);
     drop(judge);
     answer
@@ -48,7 +64,20 @@ pub fn check_plain(
         ≡ map (is_endorsed rules.now (state (history snapshot.now)))
         envelopes.now) }
 {
-    check_with_first(alloc, rules, snapshot, envelopes, &[])
+    check_plain_in(alloc, rules, snapshot.map(), envelopes)
+}
+
+/// The same in a state.
+pub fn check_plain_in(
+    alloc: Global,
+    rules: &Rules,
+    state: &StateMap,
+    envelopes: &[Envelope],
+) -> Result<Vec<bool>, AllocError>
+    ensures { IfOk result (λ v. v.items
+        ≡ map (is_endorsed rules.now (as_state state.now.entries)) envelopes.now) }
+{
+    check_with_first(alloc, rules, state, envelopes, &[])
 }
 
 /// The same where it is known of each envelope which of the organisations that stand have right
@@ -66,25 +95,40 @@ pub fn check_with_right_orgs(
         ≡ map (is_endorsed rules.now (state (history snapshot.now)))
         envelopes.now) }
 {
-    check_with_first(alloc, rules, snapshot, envelopes, right)
+    check_with_right_orgs_in(alloc, rules, snapshot.map(), envelopes, right)
+}
+
+/// The same in a state.
+pub fn check_with_right_orgs_in(
+    alloc: Global,
+    rules: &Rules,
+    state: &StateMap,
+    envelopes: &[Envelope],
+    right: &[OrgSet],
+) -> Result<Vec<bool>, AllocError>
+    requires { right.now
+        ≡ map (right_orgs (listed_in rules.now (plain_in state.now.entries)).orgs) envelopes.now }
+    ensures { IfOk result (λ v. v.items
+        ≡ map (is_endorsed rules.now (as_state state.now.entries)) envelopes.now) }
+{
+    check_with_first(alloc, rules, state, envelopes, right)
 }
 
 /// The same where it is known of the first envelopes, so many as are given.
 fn check_with_first(
     alloc: Global,
     rules: &Rules,
-    snapshot: &Snapshot,
+    state: &StateMap,
     envelopes: &[Envelope],
     right: &[OrgSet],
 ) -> Result<Vec<bool>, AllocError>
     requires { right.now
         ≡ take (length right.now)
-        (map (right_orgs (orgs_behind rules.now snapshot.now)) envelopes.now) }
+        (map (right_orgs (listed_in rules.now (plain_in state.now.entries)).orgs) envelopes.now) }
     ensures { IfOk result (λ v. v.items
-        ≡ map (is_endorsed rules.now (state (history snapshot.now)))
-        envelopes.now) }
+        ≡ map (is_endorsed rules.now (as_state state.now.entries)) envelopes.now) }
 {
-    let judge = Judge::new(alloc, rules, snapshot, envelopes)?;
+    let judge = Judge::new(alloc, rules, state, envelopes)?;
     let answers = check_each(alloc, &judge, envelopes, right);
     drop(judge);
     answers

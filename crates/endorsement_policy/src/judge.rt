@@ -4,16 +4,15 @@ ghost use Rattle.std.specs.Prelude.{◌≡◌, ◌&&◌, IfOk, IfSome, option_ma
 ghost use Rattle.std.specs.Result.{is_ok};
 ghost use Rattle.std.specs.FinMap.{get};
 ghost use Rattle.fab_types.specs.Memberships.{membership_key};
-ghost use Rattle.ledger_model.specs.Chain.{history};
-ghost use Rattle.ledger_model.specs.State.{state};
 ghost use Rattle.endorsement_policy.specs.Endorsed.{is_amend_endorsed, is_call_endorsed, is_met_by, is_upgrade_endorsed, org_names, reads_no_newer, right_orgs, writes_own};
 ghost use Rattle.endorsement_policy.specs.Installed.{names_known, usable_by};
-ghost use Rattle.endorsement_policy.specs.Judge.{judge_behind, judged_policy, judges, plain_after, policy_from};
+ghost use Rattle.endorsement_policy.specs.Judge.{judge_in, judged_policy, judges, plain_in, policy_from};
 ghost use Rattle.endorsement_policy.specs.Membership.{is_next};
 ghost use Rattle.policy_language.specs.GoodSets.{is_satisfied};
+ghost use Rattle.world_state.specs.Writing.{as_state};
 
 use crate::evaluate::satisfied;
-use crate::membership::{is_next, membership_value};
+use crate::membership::{is_next, value_of_membership};
 use crate::payloads::{
     is_amend_payload, is_upgrade_payload, names_no_other, reads_no_newer, reads_own, writes_own,
 };
@@ -25,7 +24,7 @@ use fab_types::{Amend, Call, Definition, Envelope, Membership, Name, Payload, Pr
 use policy_language::{OrgSet, Policy};
 use std::alloc::{AllocError, Global};
 use std::marker::Model;
-use world_state::Snapshot;
+use world_state::StateMap;
 
 /// The rules, the state before a block, who stands there, and the policies of the chaincodes that
 /// the block calls.
@@ -33,7 +32,7 @@ use world_state::Snapshot;
 pub(crate) struct Judge<'a> {
     rules: &'a Rules,
     standing: Standing<'a>,
-    snapshot: &'a Snapshot,
+    state: &'a StateMap,
     known: Vec<Known<'a>>,
 }
 
@@ -49,12 +48,12 @@ impl<'a> Model for Judge<'a> {
 
     ghost view = { λ j. record {
       listed = with_standing j.rules.now j.standing;
-      chain = j.snapshot.now;
+      entries = j.state.now.entries;
     } };
 
     ghost invariant = { λ j. AreRight (record {
       listed = with_standing j.rules.now j.standing;
-      chain = j.snapshot.now;
+      entries = j.state.now.entries;
     }) j.known.items };
 }
 
@@ -64,17 +63,17 @@ impl<'a> Judge<'a> {
     pub(crate) fn new(
         alloc: Global,
         rules: &'a Rules,
-        snapshot: &'a Snapshot,
+        state: &'a StateMap,
         envelopes: &'a [Envelope],
     ) -> Result<Judge<'a>, AllocError>
-        ensures { IfOk result (λ j. j ≡ judge_behind rules.now snapshot.now) }
+        ensures { IfOk result (λ j. j ≡ judge_in rules.now state.now.entries) }
     {
-        let standing = Standing::of(alloc, rules, snapshot)?;
+        let standing = Standing::in_state(alloc, rules, state)?;
         let known = Vec::new(alloc);
         let mut judge = Judge {
             rules,
             standing,
-            snapshot,
+            state,
             known,
         };
         match judge.meet_each(alloc, envelopes) {
@@ -106,7 +105,7 @@ impl<'a> Judge<'a> {
         if self.known(&call.chaincode).is_some() {
             return Ok(());
         }
-        let source = Source::of(alloc, self.rules, self.snapshot, &call.chaincode)?;
+        let source = Source::of(alloc, self.rules, self.state, &call.chaincode)?;
         self.known.push(Known {
             chaincode: &call.chaincode,
             source,
@@ -157,7 +156,7 @@ impl<'a> Judge<'a> {
         requires { IfSome right
             (λ orgs. orgs.now ≡ right_orgs self.now.listed.orgs envelope.now) }
         ensures { IfOk result (λ b. b
-            ≡ is_call_endorsed self.now.listed (plain_after self.now.chain) call.now
+            ≡ is_call_endorsed self.now.listed (plain_in self.now.entries) call.now
             envelope.now) }
     {
         if !reads_own(&envelope.payload) || !names_no_other(&envelope.payload) {
@@ -194,7 +193,7 @@ impl<'a> Judge<'a> {
             ≡ is_met_by (right_orgs self.now.listed.orgs envelope.now)
             (judged_policy self.now chaincode.now)) }
     {
-        let source = Source::of(alloc, self.rules, self.snapshot, chaincode)?;
+        let source = Source::of(alloc, self.rules, self.state, chaincode)?;
         is_met_by(alloc, &self.standing, source.policy(), envelope, right)
     }
 
@@ -209,7 +208,7 @@ impl<'a> Judge<'a> {
         requires { IfSome right
             (λ orgs. orgs.now ≡ right_orgs self.now.listed.orgs envelope.now) }
         ensures { IfOk result (λ b. b
-            ≡ is_upgrade_endorsed self.now.listed (state (history self.now.chain)) upgrade.now
+            ≡ is_upgrade_endorsed self.now.listed (as_state self.now.entries) upgrade.now
             envelope.now) }
     {
         if !is_upgrade_payload(alloc, upgrade, &envelope.payload)? {
@@ -246,7 +245,7 @@ impl<'a> Judge<'a> {
         requires { IfSome right
             (λ orgs. orgs.now ≡ right_orgs self.now.listed.orgs envelope.now) }
         ensures { IfOk result (λ b. b
-            ≡ is_amend_endorsed self.now.listed (state (history self.now.chain)) amend.now
+            ≡ is_amend_endorsed self.now.listed (as_state self.now.entries) amend.now
             envelope.now) }
     {
         if !is_amend_payload(alloc, amend, &envelope.payload)? {
@@ -281,24 +280,20 @@ impl<'a> Judge<'a> {
 
     /// Whether each key that is read is no newer than in the state.
     fn reads_no_newer(&self, payload: &Payload) -> bool
-        ensures { result ≡ reads_no_newer (state (history self.now.chain)) payload.now }
+        ensures { result ≡ reads_no_newer (as_state self.now.entries) payload.now }
     {
-        reads_no_newer(self.snapshot, payload)
+        reads_no_newer(self.state, payload)
     }
 
     /// Whether a membership may come next in the state.
     fn is_next(&self, alloc: Global, membership: &Membership) -> Result<bool, AllocError>
         ensures { IfOk result (λ b. b
             ≡ is_next self.now.listed.installed.orgs
-            (get (plain_after self.now.chain) membership_key) membership.now) }
+            (get (plain_in self.now.entries) membership_key) membership.now) }
     {
         let organisations = self.rules.installed().organisations();
-        is_next(
-            alloc,
-            organisations,
-            membership_value(self.snapshot),
-            membership,
-        )
+        let value = value_of_membership(self.state);
+        is_next(alloc, organisations, value, membership)
     }
 }
 

@@ -34,8 +34,11 @@ mod standing;
 mod tags;
 mod workers;
 
-pub use asking::satisfies;
-pub use check::{check_plain, check_with_right_orgs, is_endorsed};
+pub use asking::{satisfies, satisfies_in};
+pub use check::{
+    check_plain, check_plain_in, check_with_right_orgs, check_with_right_orgs_in, is_endorsed,
+    is_endorsed_in,
+};
 pub use evaluate::satisfied;
 pub use fault::DefinitionFault;
 pub use installed::{Installed, ModuleId, ModulePlace, Usable};
@@ -43,9 +46,11 @@ pub use laws::{
     a_signature_is_of_one_ledger, an_endorsed_envelope_carries_a_right_tag, public_keys_differ,
     unamended, usable_definitions_are_spelled,
 };
-pub use membership::{is_next, is_usable, membership_value, usable_membership};
+pub use membership::{
+    is_next, is_usable, membership_value, usable_membership, value_of_membership,
+};
 pub use organisations::is_tag;
-pub use parallel::{Gate, check_all};
+pub use parallel::{Gate, check_all, check_all_in};
 pub use rules::{ChaincodePolicy, Rules};
 pub use standing::Standing;
 pub use tags::right_orgs_of_blocks;

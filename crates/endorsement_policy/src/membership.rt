@@ -6,7 +6,7 @@ ghost use Rattle.std.specs.List.{list_all};
 ghost use Rattle.grammar.specs.Reading.{whole_at};
 ghost use Rattle.fab_types.specs.Memberships.{membership_key};
 ghost use Rattle.wire.specs.Reading.{membership_at};
-ghost use Rattle.endorsement_policy.specs.Judge.{plain_after};
+ghost use Rattle.endorsement_policy.specs.Judge.{plain_after, plain_in};
 ghost use Rattle.endorsement_policy.specs.Membership.{has_known_key, have_own_keys, is_next, is_usable, member_names, membership_policy, orgs_by, serial_of, usable_membership};
 
 use crate::members::{have_own_keys, organisations_by};
@@ -15,15 +15,22 @@ use org_keys::Organisation;
 use policy_language::{Policy, policy_in_text};
 use std::alloc::{AllocError, Global};
 use wire::{WireFault, decode_membership};
-use world_state::Snapshot;
+use world_state::{Snapshot, StateMap};
 
 /// The value at the key of the membership.
 pub fn membership_value(snapshot: &Snapshot) -> Option<&Value>
     ensures { option_map (λ v. v.now) result ≡ get (plain_after snapshot.now) membership_key }
 {
+    value_of_membership(snapshot.map())
+}
+
+/// The value at the key of the membership, in a state.
+pub fn value_of_membership(state: &StateMap) -> Option<&Value>
+    ensures { option_map (λ v. v.now) result ≡ get (plain_in state.now.entries) membership_key }
+{
     let key = Key::of_membership();
-    match snapshot.get(&key) {
-        Some((value, _)) => Some(value),
+    match state.get(&key) {
+        Some(entry) => Some(&entry.0),
         None => None,
     }
 }

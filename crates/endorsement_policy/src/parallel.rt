@@ -6,6 +6,7 @@ ghost use Rattle.ledger_model.specs.State.{state};
 ghost use Rattle.endorsement_policy.specs.Endorsed.{is_endorsed};
 ghost use Rattle.endorsement_policy.specs.Judge.{judges};
 ghost use Rattle.endorsement_policy.specs.Shares.{IsShare};
+ghost use Rattle.world_state.specs.Writing.{as_state};
 
 use crate::judge::Judge;
 use crate::rules::Rules;
@@ -14,7 +15,7 @@ use fab_types::Envelope;
 use std::alloc::{AllocError, Global};
 use std::thread;
 use std::thread::Threads;
-use world_state::Snapshot;
+use world_state::{Snapshot, StateMap};
 
 /// What is called round each check of an envelope, by the thread that makes it.
 pub trait Gate: Sync {
@@ -41,9 +42,24 @@ pub fn check_all<R: Threads + Sync, G: Gate>(
         ≡ map (is_endorsed rules.now (state (history snapshot.now)))
         envelopes.now) }
 {
+    check_all_in(workers, alloc, rules, snapshot.map(), envelopes, gate)
+}
+
+/// The same in a state.
+pub fn check_all_in<R: Threads + Sync, G: Gate>(
+    workers: &Workers<'_, R>,
+    alloc: Global,
+    rules: &Rules,
+    state: &StateMap,
+    envelopes: &[Envelope],
+    gate: &G,
+) -> Result<Vec<bool>, AllocError>
+    ensures { IfOk result (λ v. v.items
+        ≡ map (is_endorsed rules.now (as_state state.now.entries)) envelopes.now) }
+{
     let rt = workers.rt();
     let count = workers.count().min(envelopes.len().max(1));
-    let judge = Judge::new(alloc, rules, snapshot, envelopes)?;
+    let judge = Judge::new(alloc, rules, state, envelopes)?;
     let answers = check_by(rt, alloc, &judge, envelopes, count, gate);
     drop(judge);
     answers

@@ -1,9 +1,8 @@
 //! What the payloads of calls, upgrades and amendments may name.
 
 ghost use Rattle.std.specs.Prelude.{◌≡◌, IfOk};
-ghost use Rattle.ledger_model.specs.Chain.{history};
 ghost use Rattle.ledger_model.specs.Flags.{version_at};
-ghost use Rattle.ledger_model.specs.State.{state};
+ghost use Rattle.world_state.specs.Writing.{as_state};
 ghost use Rattle.endorsement_policy.specs.Endorsed.{is_amend_payload, is_no_newer, is_one_put, is_one_read, is_put_payload, is_upgrade_payload, is_value, names_no_other, reads_no_newer, reads_no_other, reads_own, writes_own, writes_shown};
 
 use fab_types::{
@@ -12,7 +11,7 @@ use fab_types::{
 };
 use std::alloc::{AllocError, Global};
 use wire::{encode_definition, encode_membership};
-use world_state::Snapshot;
+use world_state::StateMap;
 
 /// Whether the key that the proposal is about is read.
 pub(crate) fn reads_own(payload: &Payload) -> bool
@@ -58,26 +57,26 @@ pub(crate) fn writes_own(edition: Edition, chaincode: &Name, payload: &Payload) 
 }
 
 /// Whether each key that is read is no newer than in the state.
-pub(crate) fn reads_no_newer(snapshot: &Snapshot, payload: &Payload) -> bool
-    ensures { result ≡ reads_no_newer (state (history snapshot.now)) payload.now }
+pub(crate) fn reads_no_newer(state: &StateMap, payload: &Payload) -> bool
+    ensures { result ≡ reads_no_newer (as_state state.now.entries) payload.now }
 {
     let reads = payload.reads().as_slice();
-    reads.iter().all(|r| is_read_no_newer(snapshot, r))
+    reads.iter().all(|r| is_read_no_newer(state, r))
 }
 
 /// Whether a key was read no newer than it is in the state.
-fn is_read_no_newer(snapshot: &Snapshot, read: &ReadItem) -> bool
+fn is_read_no_newer(state: &StateMap, read: &ReadItem) -> bool
     ensures { result
-        ≡ is_no_newer (version_at (state (history snapshot.now)) read.now.key) read.now.version }
+        ≡ is_no_newer (version_at (as_state state.now.entries) read.now.key) read.now.version }
 {
-    is_no_newer(standing_version(snapshot, &read.key), read.version)
+    is_no_newer(standing_version(state, &read.key), read.version)
 }
 
 /// The version of a key in the state. None where the key is absent.
-fn standing_version(snapshot: &Snapshot, key: &Key) -> Option<Version>
-    ensures { result ≡ version_at (state (history snapshot.now)) key.now }
+fn standing_version(state: &StateMap, key: &Key) -> Option<Version>
+    ensures { result ≡ version_at (as_state state.now.entries) key.now }
 {
-    match snapshot.get(key) {
+    match state.get(key) {
         Some(entry) => Some(entry.1),
         None => None,
     }

@@ -3,11 +3,11 @@
 ghost use Rattle.std.specs.Prelude.{◌≡◌, ◌||◌, Some, None, IfOk, not, option_and_then, option_map, if◌then◌else◌};
 ghost use Rattle.std.specs.List.{find};
 ghost use Rattle.endorsement_policy.specs.Endorsed.{is_org, org_names};
-ghost use Rattle.endorsement_policy.specs.Judge.{plain_after};
+ghost use Rattle.endorsement_policy.specs.Judge.{plain_after, plain_in};
 ghost use Rattle.endorsement_policy.specs.Membership.{is_usable, standing_by, standing_in};
 
 use crate::members::members_in;
-use crate::membership::{membership_policy, membership_value, spelled_membership};
+use crate::membership::{membership_policy, spelled_membership, value_of_membership};
 use crate::organisations::{find_organisation, names_of};
 use crate::rules::Rules;
 use fab_types::{Membership, OrgName};
@@ -15,7 +15,7 @@ use org_keys::Organisation;
 use policy_language::Policy;
 use std::alloc::{AllocError, Global};
 use std::marker::Model;
-use world_state::Snapshot;
+use world_state::{Snapshot, StateMap};
 
 /// The organisations that the members of a membership are, and its policy.
 #[derive(Drop)]
@@ -54,7 +54,18 @@ impl<'a> Standing<'a> {
     ) -> Result<Standing<'a>, AllocError>
         ensures { IfOk result (λ s. s ≡ standing_in rules.now (plain_after snapshot.now)) }
     {
-        let spelled = spelled_membership(alloc, membership_value(snapshot))?;
+        Standing::in_state(alloc, rules, snapshot.map())
+    }
+
+    /// Who stands in a state, as `of` says of a snapshot. The only error is want of memory.
+    pub fn in_state(
+        alloc: Global,
+        rules: &'a Rules,
+        state: &StateMap,
+    ) -> Result<Standing<'a>, AllocError>
+        ensures { IfOk result (λ s. s ≡ standing_in rules.now (plain_in state.now.entries)) }
+    {
+        let spelled = spelled_membership(alloc, value_of_membership(state))?;
         let standing = Standing::by_membership(alloc, rules, spelled.as_ref(), true);
         drop(spelled);
         standing

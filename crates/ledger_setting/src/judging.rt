@@ -1,22 +1,28 @@
 //! What a block is judged to be by the rules, and its commit.
 
 ghost use Rattle.std.specs.Prelude.{◌≡◌, [], ◌∷◌, ◌++◌, map, IfOk, OnOk, OnErr, IfErr, IfSome};
-ghost use Rattle.ledger_model.specs.Chain.{history};
+ghost use Rattle.ledger_model.specs.Chain.{Chain, history};
 ghost use Rattle.ledger_model.specs.State.{state};
+ghost use Rattle.ledger_model.specs.Views.{values_of};
+ghost use Rattle.world_state.specs.Kept.{IsKeptOf, state_in};
+ghost use Rattle.world_state.specs.Writing.{as_state};
 ghost use Rattle.endorsement_policy.specs.Endorsed.{is_endorsed, right_orgs};
-ghost use Rattle.endorsement_policy.specs.Judge.{orgs_behind};
+ghost use Rattle.endorsement_policy.specs.Judge.{orgs_behind, plain_in};
+ghost use Rattle.endorsement_policy.specs.Membership.{listed_in};
 ghost use Rattle.committer.specs.Fits.{Fits, IsRefused, blocks_of};
 ghost use Rattle.ledger_setting.specs.Judging.{IsJudged, next_by};
 ghost use Rattle.ledger_setting.specs.Rule.{table_of};
 
-use committer::{CommitRefusal, check_fits};
-use endorsement_policy::{Gate, Rules, Workers, check_all, check_plain, check_with_right_orgs};
+use committer::{CommitRefusal, check_fits_behind};
+use endorsement_policy::{
+    Gate, Rules, Workers, check_all, check_all_in, check_plain_in, check_with_right_orgs_in,
+};
 use fab_types::{Block, Envelope};
-use mvcc_validate::flag_block;
+use mvcc_validate::{flag_behind, flag_block};
 use policy_language::OrgSet;
 use std::alloc::{AllocError, Global};
 use std::thread::Threads;
-use world_state::{Judged, Snapshot};
+use world_state::{Judged, Past, Snapshot, StateMap};
 
 /// What a block is judged to be behind a snapshot: its transactions have the flags of the table, by
 /// the rules in the state before the block. Nothing is put anywhere.
@@ -35,7 +41,7 @@ pub fn judge(
     ensures refused { IfErr result
         (λ refusal. IsRefused refusal (blocks_of snapshot.now) block.now) }
 {
-    judge_with(alloc, rules, snapshot, block, None)
+    judge_behind(alloc, rules, snapshot, block)
 }
 
 /// The same where it may be known of each envelope which of the organisations that stand behind the
@@ -56,9 +62,46 @@ pub fn judge_with(
     ensures refused { IfErr result
         (λ refusal. IsRefused refusal (blocks_of snapshot.now) block.now) }
 {
-    check_fits(alloc, snapshot, block)?;
-    let endorsed = check_with(alloc, rules, snapshot, block.envelopes.as_slice(), right)?;
-    Ok(judge_checked(alloc, rules, snapshot, block, &endorsed)?)
+    judge_with_behind(alloc, rules, snapshot, block, right)
+}
+
+/// What a block is judged to be behind a chain of which this is kept, as `judge` says of a snapshot.
+/// Nothing is put anywhere.
+pub fn judge_behind<P: Past>(
+    alloc: Global,
+    rules: &Rules,
+    past: &P,
+    block: &Block,
+) -> Result<Judged, CommitRefusal>
+    ensures judged { (chain : Chain) → IsKeptOf (P.kept past.now) chain →
+        IfOk result (λ judged. IsJudged (table_of rules.now) chain block.now judged) }
+    ensures refused { (chain : Chain) → IsKeptOf (P.kept past.now) chain →
+        IfErr result (λ refusal. IsRefused refusal (blocks_of chain) block.now) }
+{
+    judge_with_behind(alloc, rules, past, block, None)
+}
+
+/// The same where it may be known of each envelope which of the organisations that stand behind the
+/// chain have right tags on it, as `judge_with` says of a snapshot.
+pub fn judge_with_behind<P: Past>(
+    alloc: Global,
+    rules: &Rules,
+    past: &P,
+    block: &Block,
+    right: Option<&[OrgSet]>,
+) -> Result<Judged, CommitRefusal>
+    requires { IfSome right
+        (λ orgs. orgs.now
+        ≡ map (right_orgs (listed_in rules.now (values_of (state_in (P.kept past.now)))).orgs)
+        block.now.envelopes) }
+    ensures judged { (chain : Chain) → IsKeptOf (P.kept past.now) chain →
+        IfOk result (λ judged. IsJudged (table_of rules.now) chain block.now judged) }
+    ensures refused { (chain : Chain) → IsKeptOf (P.kept past.now) chain →
+        IfErr result (λ refusal. IsRefused refusal (blocks_of chain) block.now) }
+{
+    check_fits_behind(alloc, past, block)?;
+    let endorsed = check_with(alloc, rules, past.map(), block.envelopes.as_slice(), right)?;
+    Ok(flag_behind(alloc, rules.edition(), past, block, &endorsed)?)
 }
 
 /// Nothing happens round a check.
@@ -84,10 +127,27 @@ pub fn judge_by_workers<T: Threads + Sync>(
     ensures refused { IfErr result
         (λ refusal. IsRefused refusal (blocks_of snapshot.now) block.now) }
 {
-    check_fits(alloc, snapshot, block)?;
+    judge_behind_by_workers(workers, alloc, rules, snapshot, block)
+}
+
+/// The same as `judge_behind`, where workers check the envelopes at once: the same for every number
+/// of them.
+pub fn judge_behind_by_workers<T: Threads + Sync, P: Past>(
+    workers: &Workers<'_, T>,
+    alloc: Global,
+    rules: &Rules,
+    past: &P,
+    block: &Block,
+) -> Result<Judged, CommitRefusal>
+    ensures judged { (chain : Chain) → IsKeptOf (P.kept past.now) chain →
+        IfOk result (λ judged. IsJudged (table_of rules.now) chain block.now judged) }
+    ensures refused { (chain : Chain) → IsKeptOf (P.kept past.now) chain →
+        IfErr result (λ refusal. IsRefused refusal (blocks_of chain) block.now) }
+{
+    check_fits_behind(alloc, past, block)?;
     let envelopes = block.envelopes.as_slice();
-    let endorsed = check_by_workers(workers, alloc, rules, snapshot, envelopes)?;
-    Ok(judge_checked(alloc, rules, snapshot, block, &endorsed)?)
+    let endorsed = check_all_in(workers, alloc, rules, past.map(), envelopes, &NoGate)?;
+    Ok(flag_behind(alloc, rules.edition(), past, block, &endorsed)?)
 }
 
 /// For each envelope whether it is endorsed, by workers at once: the same for every number of them.
@@ -106,25 +166,25 @@ pub fn check_by_workers<T: Threads + Sync>(
     check_all(workers, alloc, rules, snapshot, envelopes, &NoGate)
 }
 
-/// For each envelope whether it is endorsed. It may be known of each which of the organisations
-/// that stand have right tags on it. The only error is want of memory.
+/// For each envelope whether it is endorsed in a state. It may be known of each which of the
+/// organisations that stand have right tags on it. The only error is want of memory.
 fn check_with(
     alloc: Global,
     rules: &Rules,
-    snapshot: &Snapshot,
+    state: &StateMap,
     envelopes: &[Envelope],
     right: Option<&[OrgSet]>,
 ) -> Result<Vec<bool>, AllocError>
     requires { IfSome right
         (λ orgs. orgs.now
-        ≡ map (right_orgs (orgs_behind rules.now snapshot.now)) envelopes.now) }
-    ensures { IfOk result (λ v. v.items
-        ≡ map (is_endorsed rules.now (state (history snapshot.now)))
+        ≡ map (right_orgs (listed_in rules.now (plain_in state.now.entries)).orgs)
         envelopes.now) }
+    ensures { IfOk result (λ v. v.items
+        ≡ map (is_endorsed rules.now (as_state state.now.entries)) envelopes.now) }
 {
     match right {
-        Some(right) => check_with_right_orgs(alloc, rules, snapshot, envelopes, right),
-        None => check_plain(alloc, rules, snapshot, envelopes),
+        Some(right) => check_with_right_orgs_in(alloc, rules, state, envelopes, right),
+        None => check_plain_in(alloc, rules, state, envelopes),
     }
 }
 

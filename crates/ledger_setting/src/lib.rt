@@ -9,7 +9,8 @@ mod verdict;
 
 pub use genesis::Genesis;
 pub use judging::{
-    check_by_workers, commit, commit_by_workers, judge, judge_by_workers, judge_checked, judge_with,
+    check_by_workers, commit, commit_by_workers, judge, judge_behind, judge_behind_by_workers,
+    judge_by_workers, judge_checked, judge_with, judge_with_behind,
 };
 pub use laws::{
     a_block_changes_a_key_once, definitions_are_upgraded, keys_are_put_by_their_chaincode,

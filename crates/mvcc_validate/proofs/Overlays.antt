@@ -21,6 +21,11 @@ version_under : {X : Type 0} (o : Option (X × Version)) (f : X → Bytes) →
 version_under None f = refl
 version_under (Some e) f = refl
 
+-- a key's version, of what is answered of the key
+pub version_by : {X : Type 0} (m : Versioned) (key : Bytes) (o : Option (X × Version)) (f : X → Bytes) →
+    option_map (λ e. (f e.0, e.1)) o ≡ get m key → version_at m key ≡ option_map (λ e. e.1) o
+version_by m key o f h = ap (option_map (λ e. e.1)) (sym h) ∙ version_under o f
+
 -- a key's version, of what a snapshot answers
 pub version_shown : {X : Type 0} (ts : List Placed) (key : Bytes) (o : Option (X × Version)) (f : X → Bytes) →
     option_map (λ e. (f e.0, e.1)) o ≡ state_at ts key → version_at (state ts) key ≡ option_map (λ e. e.1) o

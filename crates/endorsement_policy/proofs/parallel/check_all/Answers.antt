@@ -1,8 +1,8 @@
 use Rattle.std.proofs.Common.{◌≡◌, IfOk, map, subst}
-use Rattle.endorsement_policy.specs.Judge.{Judge, judges}
+use Rattle.endorsement_policy.specs.Endorsed.{is_endorsed}
 use Rattle.endorsement_policy.proofs.parallel.check_all.Goals as goal
 
 pub returns : goal.returns
 returns g c =
-    subst (λ (j : Judge). IfOk c.check_by-answers.result (λ v. v.items ≡ map (judges j) c.args.envelopes.now)) c.in_ok-judge.ensures
-    c.check_by-answers.ensures
+    subst (λ m. IfOk c.check_all_in.result (λ v. v.items ≡ map (is_endorsed c.args.rules.now m) c.args.envelopes.now)) c.map.ensures
+    c.check_all_in.ensures

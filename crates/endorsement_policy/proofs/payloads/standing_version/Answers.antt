@@ -1,14 +1,9 @@
 use Rattle.std.proofs.Common.{◌∙◌, ap, sym, option_map}
-use Rattle.ledger_model.specs.Chain.{history}
-use Rattle.ledger_model.proofs.State.{get-state}
+use Rattle.world_state.proofs.Entries.{get_lookup}
 use Rattle.endorsement_policy.proofs.payloads.standing_version.Goals as goal
 
 pub returns-in-Some : goal.returns-in-Some
-returns-in-Some c =
-    sym (ap (option_map (λ e. e.1)) (get-state (history c.args.snapshot.now) c.args.key.now ∙ sym c.get.ensures
-    ∙ ap (option_map (λ e. (e.0.now, e.1))) c.in-Some.is))
+returns-in-Some c = sym (ap (option_map (λ e. e.1)) (get_lookup c.args.state.now.entries c.args.key.now ∙ sym c.in-Some.ensures))
 
 pub returns-in-None : goal.returns-in-None
-returns-in-None c =
-    sym (ap (option_map (λ e. e.1)) (get-state (history c.args.snapshot.now) c.args.key.now ∙ sym c.get.ensures
-    ∙ ap (option_map (λ e. (e.0.now, e.1))) c.in-None.is))
+returns-in-None c = sym (ap (option_map (λ e. e.1)) (get_lookup c.args.state.now.entries c.args.key.now ∙ sym c.in-None.ensures))

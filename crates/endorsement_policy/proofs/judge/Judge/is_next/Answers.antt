@@ -6,7 +6,7 @@ use Rattle.ledger_model.specs.Chain.{Bytes}
 use Rattle.org_keys.specs.declared.organisation.Organisation.{Organisation}
 use Rattle.endorsement_policy.specs.Installed.{Installed}
 use Rattle.endorsement_policy.specs.Listed.{Listed}
-use Rattle.endorsement_policy.specs.Judge.{Judge, plain_after}
+use Rattle.endorsement_policy.specs.Judge.{Judge, plain_in}
 use Rattle.endorsement_policy.specs.Membership.{is_next, with_standing}
 use Rattle.endorsement_policy.proofs.judge.Judge.is_next.Goals as goal
 
@@ -22,5 +22,5 @@ returns c =
     let same : with_standing c.self.inside.rules.now c.self.inside.standing ≡ listed = ap (λ (j : Judge). j.listed) c.self.view_is in
     let orgs : c.organisations-organisations.result.now ≡ listed.installed.orgs =
     c.organisations-organisations.ensures ∙ ap (λ (i : Installed). i.orgs) c.installed.ensures ∙ ap (λ (l : Listed). l.installed.orgs) same in
-    let value = c.membership_value.ensures ∙ ap (λ (j : Judge). get (plain_after j.chain) membership_key) c.self.view_is in
+    let value = c.value_of_membership.ensures ∙ ap (λ (j : Judge). get (plain_in j.entries) membership_key) c.self.view_is in
     by_equal c.is_next.result c.args.membership.now _ _ _ _ orgs value c.is_next.ensures
