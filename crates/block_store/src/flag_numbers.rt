@@ -1,6 +1,6 @@
 //! Flags from their bytes.
 
-ghost use Rattle.std.specs.Prelude.{◌≡◌, ◌<◌, MatchOption, IfOk, length, map};
+ghost use Rattle.std.specs.Prelude.{◌≡◌, ◌<◌, MatchOption, IfOk, map};
 ghost use Rattle.fab_types.specs.FlagNumber.{flag_number};
 ghost use Rattle.block_store.specs.Store.{AreFlags};
 

@@ -1,6 +1,6 @@
 //! Reading a store that comes in pieces.
 
-ghost use Rattle.std.specs.Prelude.{◌≡◌, ◌<◌, ◌≤◌, ◌↔◌, IsTrue, IfOk, OnErr, drop, length};
+ghost use Rattle.std.specs.Prelude.{◌≡◌, ◌<◌, ◌≤◌, IfOk, OnErr, drop, length};
 ghost use Rattle.block_store.specs.Progress.{Feeds, at_start, end_of};
 
 use crate::end::End;

@@ -1,6 +1,6 @@
 //! The records at the front of some bytes.
 
-ghost use Rattle.std.specs.Prelude.{◌≡◌, ◌≤◌, IfOk, drop, length};
+ghost use Rattle.std.specs.Prelude.{◌≤◌, IfOk, drop, length};
 ghost use Rattle.block_store.specs.Progress.{Reads};
 ghost use Rattle.block_store.specs.Store.{Awaits};
 

@@ -1,6 +1,6 @@
 //! The chaincodes that can be called, and the modules that are installed.
 
-ghost use Rattle.std.specs.Prelude.{◌≡◌, ◌≤◌, ◌↔◌, length, IsSome, IfSome, true, map, option_map, slice_get};
+ghost use Rattle.std.specs.Prelude.{◌≡◌, ◌↔◌, IsSome, IfSome, true, option_map, slice_get};
 ghost use Rattle.std.specs.List.{list_all, list_any, AllByRecursion};
 ghost use Rattle.wasm_typing.specs.ModuleRules.{IsValid};
 ghost use Rattle.endorsement_policy.specs.Installed.{is_id};

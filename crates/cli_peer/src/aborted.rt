@@ -1,6 +1,6 @@
 //! What a batch leaves out.
 
-ghost use Rattle.std.specs.Prelude.{◌≡◌, IfErr, OnErr, OnOk, option_map};
+ghost use Rattle.std.specs.Prelude.{IfErr, OnErr, OnOk, option_map};
 ghost use Rattle.std.specs.List.{flat_map, zip};
 ghost use Rattle.cli_lines.specs.Told.{IsBrokenOff, Prints, PrintsNothing, PrintsPart, Tells};
 ghost use Rattle.cli_peer.specs.Printed.{left_out_text, left_text};

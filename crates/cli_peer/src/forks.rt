@@ -1,6 +1,6 @@
 //! When a block that an organisation says it has is told as a fork.
 
-ghost use Rattle.std.specs.Prelude.{◌≡◌, [], IfErr, IfOk, OnErr, OnOk, option_map, if◌then◌else◌};
+ghost use Rattle.std.specs.Prelude.{◌≡◌, [], IfErr, OnErr, OnOk, option_map, if◌then◌else◌};
 ghost use Rattle.cli_lines.specs.Told.{IsBrokenOff, Prints, PrintsNothing, Tells};
 ghost use Rattle.peer_answers.specs.Seen.{forked_text, has_hash};
 

@@ -1,6 +1,6 @@
 //! What the text of a log's line says where it is no mark of an orderer.
 
-ghost use Rattle.std.specs.Prelude.{◌≡◌, ◌↔◌, ℕ, List, IsTrue};
+ghost use Rattle.std.specs.Prelude.{◌↔◌, ℕ, List, IsTrue};
 ghost use Rattle.orderer.specs.Ordering.{Ordering};
 ghost use Rattle.log_orderer.specs.Skipped.{IsSkippedBy};
 ghost use Rattle.cli_peer.specs.Marks.{IsMarkOrNone, NamesAnotherIn};

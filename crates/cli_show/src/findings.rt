@@ -1,6 +1,6 @@
 //! What is found of a store.
 
-ghost use Rattle.std.specs.Prelude.{◌≡◌, ◌<◌, [], IfErr, IfOk, OnErr};
+ghost use Rattle.std.specs.Prelude.{◌≡◌, ◌<◌, IfErr, IfOk, OnErr};
 ghost use Rattle.cli_lines.specs.Told.{IsBrokenOff, PrintsNothing, Tells};
 ghost use Rattle.cli_show.specs.Findings.{EndsBy, Finds, ends_with, is_good};
 

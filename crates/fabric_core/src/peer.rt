@@ -1,6 +1,6 @@
 //! One peer: its snapshot and its seats.
 
-ghost use Rattle.std.specs.Prelude.{◌≡◌, ℕ, List, [], ◌∷◌, ◌++◌, ◌+◌, ◌<◌, length, slice_get, Ok, IfOk, IfSome, OnErr, None, Some, if◌then◌else◌};
+ghost use Rattle.std.specs.Prelude.{◌≡◌, ℕ, [], ◌∷◌, ◌++◌, ◌+◌, ◌<◌, length, slice_get, Ok, IfOk, IfSome, OnErr, None, Some, if◌then◌else◌};
 ghost use Rattle.ledger_model.specs.Chain.{Chain, history};
 ghost use Rattle.ledger_model.specs.State.{state};
 ghost use Rattle.ledger_model.specs.Views.{values_of};

@@ -1,7 +1,7 @@
 //! The fields of each form of a line, which are taken in the order of their names.
 
 ghost use Rattle.std.specs.Prelude.{◌≡◌, ◌≢◌, ℕ, List, MatchOption, MatchBool};
-ghost use Rattle.serde_json.specs.Data.{Data, Items, Members, array, member, number, object, string, unsigned};
+ghost use Rattle.serde_json.specs.Data.{Data, Items, Members, member, number, object, string, unsigned};
 ghost use Rattle.serde_json.specs.View.{view, items_view, members_view};
 ghost use Rattle.json_events.specs.Spelling.{amend_members, argument_name, begin_object, call_members, commit_object, finish_object, hex_object, seat_members, upgrade_members, use_object, word_object};
 ghost use Rattle.json_events.specs.Spelling.{kept_object};

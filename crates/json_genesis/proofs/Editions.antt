@@ -1,5 +1,5 @@
 -- The edition of the rules that a field names, which may be left out.
-use Rattle.std.proofs.Common.{◌≡◌, ◌≢◌, ℕ, List, [], ◌∷◌, Option, Some, None, codes, bytes_eq, true≢false, refl, sym, ap, ◌∙◌, arith}
+use Rattle.std.proofs.Common.{◌≡◌, ◌≢◌, ℕ, List, [], Option, Some, None, codes, bytes_eq, true≢false, refl, sym, ap, ◌∙◌, arith}
 use Rattle.serde_json.specs.Data.{Data, Members, no_members, member}
 use Rattle.fab_types.specs.Editions.{edition_number}
 use Rattle.fab_types.specs.declared.edition.Edition.{Edition}

@@ -3,7 +3,7 @@
 ghost use Rattle.std.specs.Prelude.{◌≡◌, ◌≢◌, Result, [], ◌∷◌, ◌++◌, List, ℕ};
 ghost use Rattle.std.specs.List.{flat_map};
 ghost use Rattle.fab_types.specs.declared.block.Block.{Block};
-ghost use Rattle.ledger_model.specs.Chain.{Chain, Committed};
+ghost use Rattle.ledger_model.specs.Chain.{Chain};
 ghost use Rattle.ledger_model.specs.Judged.{BlockRule};
 ghost use Rattle.ledger_model.specs.Serial.{IsPrefix};
 ghost use Rattle.committer.specs.Fits.{blocks_of};

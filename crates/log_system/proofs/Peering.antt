@@ -1,8 +1,7 @@
 -- What a peer does is what a machine does: it joins the blocks that its chain gets, and answers each call on the same chain.
-use Rattle.std.proofs.Common.{◌≡◌, ◌≢◌, ◌≤◌, ℕ, List, [], ◌∷◌, ◌++◌, arith, length, map, Ok, Option, Result, refl, sym, ap, subst, ◌∙◌}
+use Rattle.std.proofs.Common.{◌≡◌, ◌≤◌, ℕ, List, [], ◌∷◌, ◌++◌, arith, length, map, Option, refl, sym, ap, subst, ◌∙◌}
 use Rattle.std.proofs.lemmas.List.{append-nil, append_assoc, append_cancel_left}
 use Rattle.fab_types.specs.declared.block.Block.{Block}
-use Rattle.orderer.specs.Ordering.{Ordering}
 use Rattle.orderer.specs.declared.report.BatchReport.{BatchReport}
 use Rattle.ledger_model.specs.Chain.{Bytes, Chain}
 use Rattle.ledger_model.specs.Judged.{BlockRule}
@@ -11,11 +10,9 @@ use Rattle.committer.specs.Fits.{blocks_of}
 use Rattle.store_replay.specs.Lawful.{AreLawful}
 use Rattle.log_orderer.specs.Log.{ReadsEach}
 use Rattle.log_orderer.specs.Reported.{answer_of}
-use Rattle.log_orderer.specs.declared.replica.LineReport.{LineReport}
-use Rattle.log_committer.specs.Committing.{Receives, ReceivesAll, for_memory}
-use Rattle.log_committer.specs.Peering.{HasEach, Held, ReadsLine, made_by}
+use Rattle.log_committer.specs.Committing.{ReceivesAll}
+use Rattle.log_committer.specs.Peering.{HasEach, Held, made_by}
 use Rattle.log_committer.specs.declared.receiving.Received.{Received}
-use Rattle.log_committer.specs.declared.refusal.ReceiveRefusal.{ReceiveRefusal}
 use Rattle.log_committer.proofs.Peering.{Grows, ReadsOneWay, blocks_grow, grows_on, line_kept, one_line}
 use Rattle.log_system.specs.Machines.{Act, Does, DoesEach, Endorses, Joins, Setting}
 use Rattle.log_system.specs.Peers.{Answers, Call, Deed, DoesDeeds, IsMachine, Takes, begun, calls_in, calls_of, lines_of}

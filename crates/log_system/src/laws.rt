@@ -1,6 +1,6 @@
 //! What holds of machines that read one log.
 
-ghost use Rattle.std.specs.Prelude.{◌≡◌, ◌≢◌, ◌<◌, ◌≤◌, ◌++◌, [], ◌∷◌, ℕ, Bool, List, Option};
+ghost use Rattle.std.specs.Prelude.{◌≡◌, ◌≢◌, ◌<◌, ◌≤◌, ◌++◌, [], ℕ, Bool, List, Option};
 ghost use Rattle.std.specs.Prelude.{◌⊎◌, Result, Ok, Err, Some, true, length, map, slice_get};
 ghost use Rattle.fab_types.specs.declared.block.Block.{Block};
 ghost use Rattle.fab_types.specs.declared.envelope.Endorsement.{Endorsement};

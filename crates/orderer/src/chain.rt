@@ -1,6 +1,6 @@
 //! The chain of which the maker of its blocks keeps hashes alone, for contracts.
 
-ghost use Rattle.std.specs.Prelude.{◌≡◌, [], ◌++◌, List};
+ghost use Rattle.std.specs.Prelude.{◌≡◌, List};
 ghost use Rattle.std.specs.Borrow.{ftrue};
 ghost use Rattle.fab_types.specs.declared.block.Block.{Block};
 

@@ -1,7 +1,6 @@
 //! The orderer.
 
 ghost use Rattle.std.specs.Prelude.{◌≡◌, ◌≤◌, ◌<◌, ◌+◌, ◌++◌, [], IfOk, IfErr, OnOk, OnErr, Some, None, length};
-ghost use Rattle.std.specs.List.{filter};
 ghost use Rattle.std.specs.Option.{option_to_list};
 ghost use Rattle.std.specs.Vec.{vec_capacity};
 ghost use Rattle.batch_cutter.specs.Division.{message, timeout};

@@ -1,5 +1,5 @@
 -- Answers that are known before their lines are done.
-use Rattle.std.specs.Prelude.{ℕ, Option, Some, None}
+use Rattle.std.specs.Prelude.{Option, Some, None}
 use Rattle.std.specs.Str.Lossy.{utf8_lossy}
 use Rattle.ledger_model.specs.Chain.{Bytes, Chain}
 use Rattle.peer_answers.specs.Answering.{Peer, Says}

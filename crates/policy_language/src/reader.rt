@@ -1,6 +1,6 @@
 //! A place in the text of a policy.
 
-ghost use Rattle.std.specs.Prelude.{◌≡◌, ◌≤◌, ◌<◌, ◌^◌, ◌==◌, ◌↔◌, IsTrue, IfErr, Some, false, true, None, List, [], ℕ, suc, cond, length};
+ghost use Rattle.std.specs.Prelude.{◌≡◌, ◌≤◌, ◌<◌, ◌==◌, ◌↔◌, IsTrue, IfErr, Some, false, true, None, List, [], ℕ, suc, cond, length};
 ghost use Rattle.std.specs.List.{list_all, prefix_len};
 ghost use Rattle.fab_types.specs.Limits.{is_digit, is_org_name_byte};
 ghost use Rattle.policy_language.specs.Parsing.{IsAt, Misses, Parses, Passes, Tells};

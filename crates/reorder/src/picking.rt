@@ -1,6 +1,6 @@
 //! The plan, pick by pick.
 
-ghost use Rattle.std.specs.Prelude.{◌≡◌, ℕ, ◌+◌, ◌^◌, ◌<◌, ◌≤◌, Bool, true, false, if◌then◌else◌, length, slice_index, MatchOption, IfOk};
+ghost use Rattle.std.specs.Prelude.{◌≡◌, ℕ, ◌+◌, ◌^◌, ◌<◌, true, false, if◌then◌else◌, length, slice_index, MatchOption, IfOk};
 ghost use Rattle.std.specs.List.{All, AllByRecursion};
 ghost use Rattle.reorder.specs.Plan.{waits, all_but, IsPlan};
 ghost use Rattle.reorder.specs.Counts.{IsAscending, IsListed, IsNext};

@@ -1,10 +1,10 @@
-use Rattle.std.proofs.Common.{◌≡◌, Option, Some, None, IfSome, inl, option_map, sym, subst, refl, ◌∙◌}
+use Rattle.std.proofs.Common.{Some, None, IfSome, inl, option_map, sym, subst, refl}
 use Rattle.std.proofs.lemmas.Result.{err_from_is_err_and}
 use Rattle.cli_lines.proofs.Printing.{nothing_same, on_err, printed_on_err}
 use Rattle.cli_lines.proofs.Silence.{no_less, tells_by}
 use Rattle.cli_lines.specs.Places.{ChangesOnly, FilesHeld}
 use Rattle.cli_lines.specs.Told.{Answers}
-use Rattle.cli_session.specs.Stored.{HoldsAsked, HoldsPlaced, IsNotRun, store_names}
+use Rattle.cli_session.specs.Stored.{HoldsAsked, HoldsPlaced, store_names}
 use Rattle.cli_session.specs.Whole.{LinesComeTo}
 use Rattle.cli_session.proofs.Staying.{asked_stay, asked_stay_by, asked_stay_none}
 use Rattle.cli_session.proofs.Stored.{asked_all, asked_by, asked_kept, asked_none, asked_nowhere, asked_store, some_none}
