@@ -1,11 +1,14 @@
 -- What data spell is one organisation, whose key is one of the ledger; where they are an object of neither kind, none.
-use Rattle.std.proofs.Common.{◌≡◌, ℕ, List, sym, ap, ap₂, subst, ◌∙◌}
+use Rattle.std.proofs.Common.{◌≡◌, ℕ, true, List, [], ◌∷◌, refl, sym, ap, ap₂, subst, ◌∙◌}
+use Rattle.std.proofs.lemmas.Slice.Eq.{bytes_eq-Decides}
 use Rattle.fab_types.specs.declared.edition.Edition.{Edition}
 use Rattle.fab_types.specs.declared.edition.Edition.TheVariants.{First, Second}
+use Rattle.org_keys.specs.Ledgers.{are_keys_of, is_key_of, key_in}
 use Rattle.org_keys.specs.declared.organisation.OrgKey.{OrgKey}
 use Rattle.org_keys.specs.declared.organisation.OrgKey.TheVariants as key
 use Rattle.org_keys.specs.declared.organisation.Organisation.{Organisation}
-use Rattle.serde_json.specs.Data.{Data}
+use Rattle.serde_json.specs.Data.{Data, Items, no_items, item}
+use Rattle.json_fields.specs.Lists.{AreItems}
 use Rattle.json_fields.specs.NamedKeys.{public_object}
 use Rattle.json_genesis.specs.Spelling.{IsHex, IsNamedKey, IsNamedPoint, IsOrganisation, shared_object}
 use Rattle.json_genesis.proofs.Refusals.{same_ok}
@@ -64,3 +67,21 @@ module _ (edition : Edition) (ledger : List ℕ) where
   pub no_organisation : (d : Data) → ((k n : List ℕ) → d ≡ shared_object k n → ⊥) → ((n k : List ℕ) → d ≡ public_object n k → ⊥)
       → (o : Organisation) → ¬ IsOrganisation edition ledger d o
   no_organisation d shared public o h = no_key d shared public o.name o.key h.0
+
+-- ---- each is a key of the ledger
+
+key_of : (edition : Edition) (ledger : List ℕ) (d : Data) (name : List ℕ) (k : OrgKey) → IsNamedKey edition ledger d name k →
+    is_key_of edition ledger k ≡ true
+key_of First ledger d name (key.Shared k) h = refl
+key_of First ledger d name (key.Public k) h = refl
+key_of First ledger d name (key.Bound k l) h = absurd (editions_apart First refl h.0)
+key_of Second ledger d name (key.Shared k) h = refl
+key_of Second ledger d name (key.Public k) h = absurd (editions_apart Second h.0 refl)
+key_of Second ledger d name (key.Bound k l) h = (bytes_eq-Decides l ledger).1 h.1
+
+pub keys_of : (edition : Edition) (ledger : List ℕ) (ds : Items) (os : List Organisation) → AreItems (IsOrganisation edition ledger) ds os →
+    are_keys_of edition ledger os ≡ true
+keys_of edition ledger no_items [] h = refl
+keys_of edition ledger no_items (o ∷ os) h = absurd h
+keys_of edition ledger (item d ds) [] h = absurd h
+keys_of edition ledger (item d ds) (o ∷ os) h = rw (key_of edition ledger d o.name o.key h.0.0, keys_of edition ledger ds os h.1) refl
