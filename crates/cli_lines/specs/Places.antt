@@ -1,5 +1,5 @@
 -- What files hold, and where that goes which is written under a name.
-use Rattle.std.specs.Prelude.{◌≡◌, ◌≢◌, ℕ, Bool, true, List, Option, None, string_bytes}
+use Rattle.std.specs.Prelude.{◌≡◌, ◌≢◌, ℕ, Bool, true, false, List, [], Option, Some, None, string_bytes, unwrap_or}
 use Rattle.std.specs.List.{AllByRecursion}
 use Rattle.cli_lines.specs.declared.files.Target.{Target}
 use Rattle.cli_lines.specs.declared.files.Target.TheVariants.{File, NewFile, Device}
@@ -7,6 +7,11 @@ use Rattle.cli_lines.specs.declared.files.Target.TheVariants.{File, NewFile, Dev
 -- what the file of each name holds, where that is known
 abbrev pub FilesHeld : Type 0
 FilesHeld = List ℕ → Option (List ℕ)
+
+-- What an opened store holds: what the file of its name held, where that is known. Where it is known what is written, one that was not there is empty
+abbrev pub opened_bytes : (known : Bool) → Option (List ℕ) → Option (List ℕ)
+opened_bytes true held = Some (unwrap_or held [])
+opened_bytes false held = held
 
 -- where it is known what is written, each file but those of these names holds what it held
 abbrev pub ChangesOnly : (known : Bool) → (names : List (List ℕ)) → (before after : FilesHeld) → Type 0

@@ -1,7 +1,7 @@
 //! The files that the program is given.
 
 ghost use Rattle.std.specs.Prelude.{◌≡◌, ◌∷◌, ℕ, Bool, true, false, [], List, Option, Some, None, IfNone, IfSome, IfOk, IsTrue, OnOk, take};
-ghost use Rattle.cli_lines.specs.Places.{ChangesOnly, FilesHeld, IsFileOf, IsFree};
+ghost use Rattle.cli_lines.specs.Places.{ChangesOnly, FilesHeld, IsFileOf, IsFree, opened_bytes};
 ghost use Rattle.cli_lines.specs.Told.{IsHeld};
 
 use std::alloc::{AllocError, Global};
@@ -96,9 +96,10 @@ pub trait Files {
     /// program has it for itself alone. None where that cannot be done, and where another one has
     /// the file so, by `lock` too.
     fn open_store(&mut self, name: &str) -> Option<Self::Store>
-        ensures held { IfSome result (λ s. Self.Store.contents s ≡ bytes self.old name.now) }
+        ensures held { IfSome result
+            (λ s. Self.Store.contents s ≡ opened_bytes is_known (bytes self.old name.now)) }
         ensures there { is_known ≡ true →
-            IfSome result (λ _. bytes self.new name.now ≡ bytes self.old name.now) }
+            IfSome result (λ s. bytes self.new name.now ≡ Self.Store.contents s) }
         ensures refused { is_known ≡ true → IfNone result (bytes self.new ≡ bytes self.old) }
         ensures input { input_bytes self.new ≡ input_bytes self.old }
         ensures others { ChangesOnly is_known (name.now ∷ []) (bytes self.old) (bytes self.new) };

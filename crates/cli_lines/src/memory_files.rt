@@ -1,6 +1,6 @@
 //! Files in memory, of which every byte is known.
 
-ghost use Rattle.std.specs.Prelude.{◌≡◌, ◌∷◌, ℕ, List, [], true, None, Some, IfOk, OnErr, OnOk};
+ghost use Rattle.std.specs.Prelude.{◌≡◌, ◌∷◌, ℕ, List, [], true, None, Some, IfNone, IfOk, IfSome, OnErr, OnOk};
 ghost use Rattle.cli_lines.specs.Memory.{bytes_in};
 ghost use Rattle.cli_lines.specs.Places.{ChangesOnly};
 
@@ -15,8 +15,8 @@ use store_replay::Unwatched;
 /// Files in memory, by their names. Nobody else has them, and contracts see the bytes of each, and of
 /// the standard input: what is said of files whose bytes are known is said of these. What is made for
 /// writing is no file before `keep` gives it a name, and a file of the name that it has until then
-/// stays. A store is opened where there is a file, which may be empty, and that stays as it was until
-/// the store is closed.
+/// stays. A store is made as an empty file where there is none, and the file stays as it was until the
+/// store is closed.
 #[derive(Drop)]
 pub struct MemoryFiles {
     /// Where the files take their memory from.
@@ -44,10 +44,25 @@ impl MemoryFiles {
         ensures put { OnOk result (bytes_in self.new name.now ≡ Some bytes.items) }
         ensures others { ChangesOnly true (name.now ∷ []) (bytes_in self.old) (bytes_in self.new) }
         ensures refused { OnErr result (bytes_in self.new ≡ bytes_in self.old) }
+        ensures input { self.new.input ≡ self.old.input }
     {
         let name = String::from_str(self.alloc, name)?;
         self.by_name.insert(name, bytes)?;
         Ok(())
+    }
+
+    /// Makes an empty file of a name, and opens it as a store. None where there is no memory for it.
+    fn make_store(&mut self, name: &str) -> Option<MemoryStore>
+        ensures held { IfSome result (λ s. s.bytes.items ≡ []) }
+        ensures made { IfSome result (λ _. bytes_in self.new name.now ≡ Some []) }
+        ensures refused { IfNone result (bytes_in self.new ≡ bytes_in self.old) }
+        ensures others { ChangesOnly true (name.now ∷ []) (bytes_in self.old) (bytes_in self.new) }
+        ensures input { self.new.input ≡ self.old.input }
+    {
+        match self.put(name, Vec::new(self.alloc)) {
+            Ok(()) => Some(MemoryStore::new(Vec::new(self.alloc))),
+            Err(_) => None,
+        }
     }
 }
 
@@ -135,6 +150,9 @@ impl Files for MemoryFiles {
     }
 
     fn open_store(&mut self, name: &str) -> Option<MemoryStore> {
+        if !self.by_name.contains_key(name) {
+            return self.make_store(name);
+        }
         let bytes = self.by_name.get(name)?;
         let held = copy_of(self.alloc, bytes.as_slice()).ok()?;
         Some(MemoryStore::new(held))

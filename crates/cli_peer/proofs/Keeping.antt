@@ -1,5 +1,6 @@
 -- What a peer leaves in its store.
-use Rattle.std.proofs.Common.{◌≡◌, ◌∙◌, ◌++◌, inl, inr, ℕ, Bool, true, false, [], Option, Some, None, IfSome, Result, Ok, Err, OnOk, ap, refl, subst, sym}
+use Rattle.std.proofs.Common.{◌≡◌, ◌∙◌, ◌++◌, inl, inr, ℕ, Bool, true, false, [], Option, Some, None, IfSome, IsSome, Result, Ok, Err, OnOk}
+use Rattle.std.proofs.Common.{ap, refl, subst, sym}
 use Rattle.std.specs.List.{flat_map}
 use Rattle.block_store.specs.Record.{record_bytes}
 use Rattle.ledger_model.specs.Chain.{Bytes, Chain}
@@ -10,8 +11,8 @@ use Rattle.log_peer.specs.Peering.{file_of, held_by}
 use Rattle.log_peer.specs.Storing.{IsOpened}
 use Rattle.log_peer.specs.declared.peering.LogPeer.{LogPeer}
 use Rattle.log_peer.proofs.Keeping.{grows_none, grows_on, same_records}
-use Rattle.cli_lines.specs.Places.{FilesHeld}
-use Rattle.cli_lines.specs.Told.{PrintsNothing, Told}
+use Rattle.cli_lines.specs.Places.{FilesHeld, opened_bytes}
+use Rattle.cli_lines.specs.Told.{Told}
 use Rattle.peer_answers.specs.Answering.{Peer}
 use Rattle.cli_peer.specs.Input.{Input, IsNext}
 use Rattle.cli_peer.specs.Filters.{BeginsSo, ComesTo}
@@ -110,28 +111,20 @@ all_lead p input before after there old new number t u h next is =
 
 -- ---- a file that is closed
 
-kept_by : (held left after : Option Bytes) → KeepsRecords held left → IfSome held (λ _. after ≡ left) → KeepsRecords held after
-kept_by None left after keeps closed = tt
-kept_by (Some held) left after keeps closed = subst (λ (o : Option Bytes). KeepsRecords (Some held) o) (sym closed) keeps
-
 reached_by : (p : Peer) (input held left after : Option Bytes) (first : Chain) (cut : ℕ) (from new : Reached) → IsOpened held first cut
-    → AreLawful (table_of p.log.genesis.rules.value) [] first → from ≡ opened p first → LeadTo p from input new
-    → IfSome held (λ _. HoldsRecords left new.held.chain) → IfSome held (λ _. after ≡ left)
-    → IfSome held (λ bytes. (chain : Chain) × Reaches p (Some bytes) input chain × HoldsRecords after chain)
-reached_by p input None left after first cut from new opens lawful is leads holds closed = tt
-reached_by p input (Some held) left after first cut from new opens lawful is leads holds closed = (
+    → AreLawful (table_of p.log.genesis.rules.value) [] first → from ≡ opened p first → LeadTo p from input new → HoldsRecords left new.held.chain
+    → after ≡ left → (chain : Chain) × Reaches p held input chain × HoldsRecords after chain
+reached_by p input held left after first cut from new opens lawful is leads holds closed = (
   new.held.chain,
   (first, cut, opens, lawful, (new, subst (λ (r : Reached). LeadTo p r input new) is leads, refl)),
   closed ∙ holds,
 )
 
 told_left : (p : Peer) (input held left after : Option Bytes) (first : Chain) (cut : ℕ) (from : Reached) (Holds : Type 0) (t u : Told)
-    → IsOpened held first cut → AreLawful (table_of p.log.genesis.rules.value) [] first → from ≡ opened p first → IfSome held (λ _. Holds)
-    → IfSome held (λ _. after ≡ left)
+    → IsOpened held first cut → AreLawful (table_of p.log.genesis.rules.value) [] first → from ≡ opened p first → Holds → after ≡ left
     → BeginsSo (ComesBehind first cut (λ rest. (last : Reached) × LinesTo p from input rest last × (Holds → StartsWith left last.held.chain))) t u
-    → IfSome held (λ bytes. BeginsSo (TellsStored p bytes input after) t u)
-told_left p input None left after first cut from Holds t u opens lawful is holds closed told = tt
-told_left p input (Some held) left after first cut from Holds t u opens lawful is holds closed told =
+    → BeginsSo (TellsStored p held input after) t u
+told_left p input held left after first cut from Holds t u opens lawful is holds closed told =
     start_by (ComesBehind first cut (λ rest. (last : Reached) × LinesTo p from input rest last × (Holds → StartsWith left last.held.chain)))
     (TellsStored p held input after) t u
     (λ text behind. let last = behind.1.0 in inl (
@@ -151,24 +144,40 @@ told_left p input (Some held) left after first cut from Holds t u opens lawful i
     ))
     told
 
--- the file of a name, which held these bytes, is closed with others left in it
+some_so : {X : Type 0} (o : Option X) (P : Type 0) → IsSome o → IfSome o (λ _. P) → P
+some_so None P is so = absurd (cc)
+some_so (Some x) P is so = so
+
+opened_some : (held : Option Bytes) → IsSome held → held ≡ opened_bytes true held
+opened_some None is = absurd (cc)
+opened_some (Some bytes) is = refl
+
+-- the file of a name, which is there and held these bytes, is closed with others left in it
 module _ (known : Bool) (name : Bytes) (before closing after : FilesHeld) (file left : Option Bytes) (there : known ≡ true → file ≡ before name)
-    (same : closing ≡ before) (closed : known ≡ true → IfSome (closing name) (λ _. after name ≡ left)) where
-  closed_so : known ≡ true → IfSome (before name) (λ _. after name ≡ left)
-  closed_so is = subst (λ (held : FilesHeld). IfSome (held name) (λ _. after name ≡ left)) same (closed is)
+    (made : known ≡ true → IsSome (before name)) (same : closing ≡ before) (closed : known ≡ true → IfSome (closing name) (λ _. after name ≡ left)) where
+  closed_so : known ≡ true → after name ≡ left
+  closed_so is =
+      some_so (before name) (after name ≡ left) (made is) (subst (λ (held : FilesHeld). IfSome (held name) (λ _. after name ≡ left)) same (closed is))
+
+  opened_so : known ≡ true → file ≡ opened_bytes true (before name)
+  opened_so is = there is ∙ opened_some (before name) (made is)
+
+  file_so : (P : Type 0) → known ≡ true → IfSome file (λ _. P) → P
+  file_so P is so = some_so file P (subst IsSome (sym (there is)) (made is)) so
 
   pub closed_keeps : KeepsRecords file left → KeepsStore known name before after
   closed_keeps keeps =
-      λ is. kept_by (before name) left (after name) (subst (λ (o : Option Bytes). KeepsRecords o left) (there is) keeps) (closed_so is)
+      λ is. subst (λ (o : Option Bytes). KeepsRecords (before name) o) (sym (closed_so is)) (subst (λ (o : Option Bytes). KeepsRecords o left) (there is) keeps)
 
   pub closed_holds : {A E : Type 0} (p : Peer) (input : Option Bytes) (first : Chain) (cut : ℕ) (from new : Reached) (answer : Result A E)
       → IsOpened file first cut → AreLawful (table_of p.log.genesis.rules.value) [] first → from ≡ opened p first
       → OnOk answer (LeadTo p from input new) → IfSome file (λ _. OnOk answer (HoldsRecords left new.held.chain))
       → OnOk answer (HoldsReached known p name input before after)
   closed_holds p input first cut from new (Ok a) opens lawful is leads holds =
-      λ writes. let own = there writes in
-      reached_by p input (before name) left (after name) first cut from new (subst (λ (o : Option Bytes). IsOpened o first cut) own opens) lawful is leads
-      (subst (λ (o : Option Bytes). IfSome o (λ _. HoldsRecords left new.held.chain)) own holds) (closed_so writes)
+      λ writes.
+      reached_by p input (opened_bytes true (before name)) left (after name) first cut from new
+      (subst (λ (o : Option Bytes). IsOpened o first cut) (opened_so writes) opens) lawful is leads (file_so (HoldsRecords left new.held.chain) writes holds)
+      (closed_so writes)
   closed_holds p input first cut from new (Err e) opens lawful is leads holds = tt
 
   pub closed_told : (p : Peer) (input : Option Bytes) (first : Chain) (cut : ℕ) (from : Reached) (Holds : Type 0) (t u : Told)
@@ -176,59 +185,55 @@ module _ (known : Bool) (name : Bytes) (before closing after : FilesHeld) (file 
       → BeginsSo (ComesBehind first cut (λ rest. (last : Reached) × LinesTo p from input rest last × (Holds → StartsWith left last.held.chain))) t u
       → KeepsTold known p name input before after t u
   closed_told p input first cut from Holds t u opens lawful is holds told =
-      λ writes. let own = there writes in
-      told_left p input (before name) left (after name) first cut from Holds t u (subst (λ (o : Option Bytes). IsOpened o first cut) own opens) lawful is
-      (subst (λ (o : Option Bytes). IfSome o (λ _. Holds)) own holds) (closed_so writes) told
+      λ writes.
+      told_left p input (opened_bytes true (before name)) left (after name) first cut from Holds t u
+      (subst (λ (o : Option Bytes). IsOpened o first cut) (opened_so writes) opens) lawful is (file_so Holds writes holds) (closed_so writes) told
+
+  pub unopened_told : (p : Peer) (input : Option Bytes) (t u : Told) → BeginsSo (TellsUnopened p.log.genesis.rules.value file) t u
+      → KeepsTold known p name input before after t u
+  unopened_told p input t u told =
+      λ writes. let held = opened_bytes true (before name) in
+      start_by (TellsUnopened p.log.genesis.rules.value held) (TellsStored p held input (after name)) t u (λ text is. inr is)
+      (subst (λ (o : Option Bytes). BeginsSo (TellsUnopened p.log.genesis.rules.value o) t u) (opened_so writes) told)
 
 -- what was held, and what was left as that was read on
 pub held_then : {X : Type 0} (held : Option X) (P Q : Type 0) → IfSome held (λ _. P) → (P → Q) → IfSome held (λ _. Q)
 held_then None P Q first next = tt
 held_then (Some x) P Q first next = next first
 
--- ---- a file of which nothing was told but that it is not opened, or nothing at all
-
-unopened_by : (p : Peer) (input held left : Option Bytes) (t u : Told) → BeginsSo (TellsUnopened p.log.genesis.rules.value held) t u
-    → IfSome held (λ bytes. BeginsSo (TellsStored p bytes input left) t u)
-unopened_by p input None left t u told = tt
-unopened_by p input (Some held) left t u told =
-    start_by (TellsUnopened p.log.genesis.rules.value (Some held)) (TellsStored p held input left) t u (λ text is. inr is) told
-
-pub unopened_told : (known : Bool) (p : Peer) (name : Bytes) (input file : Option Bytes) (before after : FilesHeld) (t u : Told)
-    → (known ≡ true → file ≡ before name) → BeginsSo (TellsUnopened p.log.genesis.rules.value file) t u → KeepsTold known p name input before after t u
-unopened_told known p name input file before after t u there told =
-    λ is. unopened_by p input (before name) (after name) t u
-    (subst (λ (o : Option Bytes). BeginsSo (TellsUnopened p.log.genesis.rules.value o) t u) (there is) told)
-
-nothing_by : (p : Peer) (input held left : Option Bytes) (t u : Told) → PrintsNothing t u → IfSome held (λ bytes. BeginsSo (TellsStored p bytes input left) t u)
-nothing_by p input None left t u none = tt
-nothing_by p input (Some held) left t u none = inl none
-
-pub told_nothing : (known : Bool) (p : Peer) (name : Bytes) (input : Option Bytes) (before after : FilesHeld) (t u : Told) → PrintsNothing t u
-    → KeepsTold known p name input before after t u
-told_nothing known p name input before after t u none = λ is. nothing_by p input (before name) (after name) t u none
-
--- ---- a file that stays, and then is opened
+-- ---- a file that stays, or is made, and then is opened
 
 pub keeps_same : (known : Bool) (name : Bytes) (before after : FilesHeld) → (known ≡ true → after name ≡ before name) → KeepsStore known name before after
 keeps_same known name before after same =
     λ is. subst (λ (o : Option Bytes). KeepsRecords (before name) o) (sym (same is)) (same_records (before name))
 
-pub keeps_from : (known : Bool) (name : Bytes) (before mid after : FilesHeld) → (known ≡ true → mid name ≡ before name) → KeepsStore known name mid after
+keeps_opened : (held after : Option Bytes) → KeepsRecords (opened_bytes true held) after → KeepsRecords held after
+keeps_opened None after keeps = tt
+keeps_opened (Some bytes) after keeps = keeps
+
+pub keeps_made : (known : Bool) (name : Bytes) (before after : FilesHeld) → (known ≡ true → after name ≡ opened_bytes true (before name))
     → KeepsStore known name before after
-keeps_from known name before mid after same keeps = λ is. subst (λ (o : Option Bytes). KeepsRecords o (after name)) (same is) (keeps is)
+keeps_made known name before after made =
+    λ is. keeps_opened (before name) (after name)
+    (subst (λ (o : Option Bytes). KeepsRecords o (after name)) (made is) (same_records (after name)))
+
+pub keeps_from : (known : Bool) (name : Bytes) (before mid after : FilesHeld) → (known ≡ true → mid name ≡ opened_bytes true (before name))
+    → KeepsStore known name mid after → KeepsStore known name before after
+keeps_from known name before mid after made keeps =
+    λ is. keeps_opened (before name) (after name) (subst (λ (o : Option Bytes). KeepsRecords o (after name)) (made is) (keeps is))
 
 pub holds_from : {A E : Type 0} (known : Bool) (p : Peer) (name : Bytes) (input : Option Bytes) (before mid after : FilesHeld) (answer : Result A E)
-    → (known ≡ true → mid name ≡ before name) → OnOk answer (HoldsReached known p name input mid after)
+    → (known ≡ true → mid name ≡ opened_bytes true (before name)) → OnOk answer (HoldsReached known p name input mid after)
     → OnOk answer (HoldsReached known p name input before after)
-holds_from known p name input before mid after (Ok a) same holds =
-    λ is. subst (λ (o : Option Bytes). IfSome o (λ held. (chain : Chain) × Reaches p (Some held) input chain × HoldsRecords (after name) chain)) (same is)
-    (holds is)
-holds_from known p name input before mid after (Err e) same holds = tt
+holds_from known p name input before mid after (Ok a) made holds =
+    λ is. subst (λ (o : Option Bytes). (chain : Chain) × Reaches p (opened_bytes true o) input chain × HoldsRecords (after name) chain) (made is) (holds is)
+holds_from known p name input before mid after (Err e) made holds = tt
 
 pub told_from : (known : Bool) (p : Peer) (name : Bytes) (input : Option Bytes) (before mid after : FilesHeld) (t u : Told)
-    → (known ≡ true → mid name ≡ before name) → KeepsTold known p name input mid after t u → KeepsTold known p name input before after t u
-told_from known p name input before mid after t u same told =
-    λ is. subst (λ (o : Option Bytes). IfSome o (λ bytes. BeginsSo (TellsStored p bytes input (after name)) t u)) (same is) (told is)
+    → (known ≡ true → mid name ≡ opened_bytes true (before name)) → KeepsTold known p name input mid after t u
+    → KeepsTold known p name input before after t u
+told_from known p name input before mid after t u made told =
+    λ is. subst (λ (o : Option Bytes). BeginsSo (TellsStored p (opened_bytes true o) input (after name)) t u) (made is) (told is)
 
 -- all files stay
 pub keeps_all : (known : Bool) (name : Bytes) (before after : FilesHeld) → after ≡ before → KeepsStore known name before after

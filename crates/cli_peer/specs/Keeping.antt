@@ -1,12 +1,12 @@
 -- What a peer leaves in its store.
-use Rattle.std.specs.Prelude.{◌≡◌, ◌⊎◌, ◌++◌, Bool, true, List, Option, Some, IfSome, Result, OnOk}
+use Rattle.std.specs.Prelude.{◌≡◌, ◌⊎◌, ◌++◌, Bool, true, List, Option, Some, Result, OnOk}
 use Rattle.std.specs.List.{flat_map}
 use Rattle.block_store.specs.Record.{record_bytes}
 use Rattle.ledger_model.specs.Chain.{Bytes, Chain}
 use Rattle.log_peer.specs.Holding.{Grows, HoldsRecords, KeepsRecords}
 use Rattle.log_peer.specs.Peering.{file_of, held_by}
 use Rattle.log_peer.specs.declared.peering.LogPeer.{LogPeer}
-use Rattle.cli_lines.specs.Places.{FilesHeld}
+use Rattle.cli_lines.specs.Places.{FilesHeld, opened_bytes}
 use Rattle.cli_lines.specs.Told.{Told}
 use Rattle.peer_answers.specs.Answering.{Peer}
 use Rattle.cli_peer.specs.Filters.{AreDone, BeginsSo, ComesTo}
@@ -43,10 +43,10 @@ StoresOn contents old new answer =
 abbrev pub KeepsStore : (known : Bool) → (name : Bytes) → (before after : FilesHeld) → Type 0
 KeepsStore known name before after = known ≡ true → KeepsRecords (before name) (after name)
 
--- where it is known what is written, a store that was there has the records of the chain that the peer reached, and nothing else
+-- where it is known what is written, the store has the records of the chain that the peer reached, and nothing else
 abbrev pub HoldsReached : (known : Bool) → Peer → (name : Bytes) → (input : Option Bytes) → (before after : FilesHeld) → Type 0
 HoldsReached known p name input before after =
-    known ≡ true → IfSome (before name) (λ held. (chain : Chain) × Reaches p (Some held) input chain × HoldsRecords (after name) chain)
+    known ≡ true → (chain : Chain) × Reaches p (opened_bytes true (before name)) input chain × HoldsRecords (after name) chain
 
 -- ---- what was told of it
 
@@ -67,13 +67,13 @@ TellsLines contents p old new input text =
 
 -- What is printed of a store and of some first lines of the input: the store is opened, and what is left in it begins with the records of the chain to
 -- which the lines lead; or why it is not opened
-abbrev pub TellsStored : Peer → (held : Bytes) → (input left : Option Bytes) → Bytes → Type 0
+abbrev pub TellsStored : Peer → (held input left : Option Bytes) → Bytes → Type 0
 TellsStored p held input left text =
-    Opens p.log.genesis.rules.value (Some held)
+    Opens p.log.genesis.rules.value held
     (λ first cut. ComesBehind first cut (λ rest. (last : Reached) × LinesTo p (opened p first) input rest last × StartsWith left last.held.chain) text)
-    ⊎ TellsUnopened p.log.genesis.rules.value (Some held) text
+    ⊎ TellsUnopened p.log.genesis.rules.value held text
 
--- Where it is known what is written, a store that was there has each block of which something was printed, whatever the task comes to
+-- Where it is known what is written, the store has each block of which something was printed, whatever the task comes to
 abbrev pub KeepsTold : (known : Bool) → Peer → (name : Bytes) → (input : Option Bytes) → (held left : FilesHeld) → (before after : Told) → Type 0
 KeepsTold known p name input held left before after =
-    known ≡ true → IfSome (held name) (λ bytes. BeginsSo (TellsStored p bytes input (left name)) before after)
+    known ≡ true → BeginsSo (TellsStored p (opened_bytes true (held name)) input (left name)) before after

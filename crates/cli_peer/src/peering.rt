@@ -1,10 +1,10 @@
 //! The command `peer`.
 
 ghost use Rattle.std.specs.Prelude.{◌≡◌, ◌↔◌, ◌∷◌, [], Ok, Err, IfErr, IfOk, IsTrue, OnErr, OnOk};
-ghost use Rattle.std.specs.Prelude.{codes, false, true, IfSome, MatchResult};
+ghost use Rattle.std.specs.Prelude.{codes, false, true, IfSome, IsSome, MatchResult};
 ghost use Rattle.std.specs.Str.{IsUtf8};
 ghost use Rattle.hex.specs.Hex.{encode_lower};
-ghost use Rattle.cli_lines.specs.Places.{ChangesOnly};
+ghost use Rattle.cli_lines.specs.Places.{ChangesOnly, opened_bytes};
 ghost use Rattle.cli_lines.specs.Told.{Answers, Begins, IsBrokenOff, IsMore, Prints, PrintsNothing};
 ghost use Rattle.cli_lines.specs.Told.{Says, Tells};
 ghost use Rattle.ledger_setting.specs.Rule.{table_of};
@@ -70,7 +70,8 @@ pub struct Peering<'a> {
 }
 
 /// Reads lines: those of a log, whose blocks it commits to a store, and between them proposals and
-/// questions, which it answers by the chain that the store has then.
+/// questions, which it answers by the chain that the store has then. It makes the store where there
+/// is none.
 ///
 /// First comes `cut` with a count of bytes, where the store ended with a part of a record, which is
 /// cut off then, and `height` with the count of its blocks. Behind each line of the log comes
@@ -96,10 +97,12 @@ pub fn peer<T: Threads + Sync, F: Files, W: Write>(
 ) -> Result<(), Failure>
     ensures tells { Tells out.old out.new result }
     ensures answers { Answers
-        (Peers (asked_by log.now asked.now) (F.bytes files.old asked.now.store.now)
+        (Peers (asked_by log.now asked.now)
+        (opened_bytes F.is_known (F.bytes files.old asked.now.store.now))
         (F.input_bytes files.old)) out.old out.new result }
     ensures begins { Begins
-        (PeersBegin (asked_by log.now asked.now) (F.bytes files.old asked.now.store.now)
+        (PeersBegin (asked_by log.now asked.now)
+        (opened_bytes F.is_known (F.bytes files.old asked.now.store.now))
         (F.input_bytes files.old)) out.old out.new result }
     // Where it is known what is written, the whole records that the store held stand first in it. At
     // the end of the input it has the records of the chain that was reached, and nothing else.
@@ -187,6 +190,7 @@ fn peer_to<T: Threads + Sync, F: Files, V: Watch + Drop, R: Read + Drop, W: Writ
 ) -> Result<(), Failure>
     requires there { F.is_known ≡ true →
         F.Store.contents file ≡ F.bytes files.old setting.now.store.now }
+    requires made { F.is_known ≡ true → IsSome (F.bytes files.old setting.now.store.now) }
     ensures tells { Tells out.old out.new result }
     ensures answers { Answers
         (Peers (peer_of setting.now.answering) (F.Store.contents file) lines.old.left) out.old

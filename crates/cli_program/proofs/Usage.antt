@@ -1,6 +1,7 @@
 -- A task that answers that words name none printed all its texts.
 use Rattle.std.specs.Prelude.{option_map}
 use Rattle.std.proofs.Common.{◌≡◌, ◌∙◌, ℕ, List, Bool, true, false, true≢false, Result, Ok, Err, ap, inl, inr, refl, subst, sym}
+use Rattle.cli_lines.specs.Places.{opened_bytes}
 use Rattle.cli_lines.specs.Told.{Told, Answers, BreaksOff}
 use Rattle.cli_lines.specs.declared.failure.Failure.{Failure}
 use Rattle.cli_lines.specs.declared.failure.Failure.TheVariants as failure
@@ -43,7 +44,8 @@ works_kept log (work.Audit store) k t u r is h = answers_kept (Audits log.genesi
 works_kept log (work.Show store from to) k t u r is h = answers_kept (Shows log.genesis from to (k.before store.now)) t u r is h.0
 works_kept log (work.State store at part) k t u r is h = answers_kept (States log.genesis h.0 at (k.before store.now)) t u r is h.2.0
 works_kept log (work.Trace call most) k t u r is h = answers_kept (Traces log.genesis call most) t u r is h.0
-works_kept log (work.Peer org store) k t u r is h = answers_kept (Peers (record { log = log; org = org }) (k.before store.now) k.input) t u r is h.0.0
+works_kept log (work.Peer org store) k t u r is h =
+    answers_kept (Peers (record { log = log; org = org }) (opened_bytes k.writes (k.before store.now)) k.input) t u r is h.0.0
 works_kept log (work.Marks store) k t u r is h = answers_kept (Marks log.genesis (k.before store.now)) t u r is h.0
 
 comes_kept : (task : Task) (k : KnownFiles) (t u : Told) (r : Answer) → r ≡ Err failure.Usage → Comes task k t u r → IsKept t u

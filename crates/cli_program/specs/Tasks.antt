@@ -1,7 +1,7 @@
 -- What the program's tasks come to.
 use Rattle.std.specs.Prelude.{◌≡◌, ◌⊎◌, ℕ, Bool, List, OnOk, Option, Result, Err, option_map}
 use Rattle.ledger_setting.specs.declared.genesis.Genesis.{Genesis}
-use Rattle.cli_lines.specs.Places.{FilesHeld}
+use Rattle.cli_lines.specs.Places.{FilesHeld, opened_bytes}
 use Rattle.cli_lines.specs.Told.{Told, Answers, Begins, IsTextOf}
 use Rattle.cli_lines.specs.declared.failure.Failure.{Failure}
 use Rattle.cli_words.specs.declared.task.Beginning.{Beginning}
@@ -80,7 +80,8 @@ Works log (work.State store at asked) k before after answer =
 Works log (work.Trace call most) k before after answer = Does (Traces log.genesis call most) (TraceBegins log.genesis call most) before after answer
 Works log (work.Peer org store) k before after answer =
     let p : Peer = record { log = log; org = org } in
-    Does (Peers p (k.before store.now) k.input) (PeersBegin p (k.before store.now) k.input) before after answer
+    let held = opened_bytes k.writes (k.before store.now) in
+    Does (Peers p held k.input) (PeersBegin p held k.input) before after answer
     × OnOk answer (HoldsReached k.writes p store.now k.input k.before k.after)
     × KeepsTold k.writes p store.now k.input k.before k.after before after
 Works log (work.Marks store) k before after answer = DoesAll (Marks log.genesis (k.before store.now)) before after answer

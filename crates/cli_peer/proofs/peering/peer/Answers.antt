@@ -1,6 +1,6 @@
-use Rattle.std.proofs.Common.{◌∙◌, ℕ, List, [], ◌∷◌, Option, OnOk, ap, inl, subst, sym}
+use Rattle.std.proofs.Common.{◌∙◌, ℕ, List, [], ◌∷◌, Bool, Option, IsSome, OnOk, ap, inl, refl, subst, sym}
 use Rattle.std.proofs.lemmas.Result.{err_from_is_err_and}
-use Rattle.cli_lines.specs.Places.{FilesHeld}
+use Rattle.cli_lines.specs.Places.{FilesHeld, opened_bytes}
 use Rattle.cli_lines.specs.Told.{Answers, Begins}
 use Rattle.cli_lines.proofs.Changes.{changes_from, changes_kept, changes_then}
 use Rattle.cli_lines.proofs.Printing.{nothing_same}
@@ -8,7 +8,7 @@ use Rattle.cli_lines.proofs.Silence.{no_less, tells_by}
 use Rattle.cli_peer.specs.Keeping.{HoldsReached, KeepsTold}
 use Rattle.cli_peer.specs.Peering.{Peers, PeersBegin}
 use Rattle.cli_peer.specs.Setting.{asked_by}
-use Rattle.cli_peer.proofs.Keeping.{holds_from, keeps_from, keeps_same, told_from, told_nothing}
+use Rattle.cli_peer.proofs.Keeping.{holds_from, keeps_from, keeps_made, keeps_same, told_from}
 use Rattle.cli_peer.proofs.peering.peer.Goals as goal
 
 pub returns-in_default-clause-others : goal.returns-in_default-clause-others
@@ -21,15 +21,16 @@ pub returns-in_err-lines : goal.returns-in_err-lines
 returns-in_err-lines g c =
     let p = err_from_is_err_and c.from_residual.result c.from_residual.ensures.1 in
     let bytes = g.F.Files.bytes in
+    let name = c.args.asked.now.store.now in
     rw (p.1, p.2) (record {
       tells = tells_by c.args.out.now c.args.out.now _ (no_less c.args.out.now) c.in_err-lines.ensures.silent;
       answers = inl c.in_err-lines.ensures.lost;
       begins = λ broken. inl (nothing_same c.args.out.now);
-      keeps = keeps_same g.F.Files.is_known c.args.asked.now.store.now (bytes c.args.files.now) (bytes c.input.new.self)
-          (λ is. ap (λ (h : FilesHeld). h c.args.asked.now.store.now) c.input.ensures.kept ∙ c.in-Some.ensures.there is);
+      keeps = keeps_made g.F.Files.is_known name (bytes c.args.files.now) (bytes c.input.new.self)
+          (λ is. ap (λ (h : FilesHeld). h name) c.input.ensures.kept ∙ c.in-Some.ensures.there is ∙ c.in-Some.ensures.held
+          ∙ ap (λ (k : Bool). opened_bytes k (bytes c.args.files.now name)) is);
       holds = tt;
-      told = told_nothing g.F.Files.is_known (asked_by c.args.log.now c.args.asked.now) c.args.asked.now.store.now (g.F.Files.input_bytes c.args.files.now)
-          (bytes c.args.files.now) (bytes c.input.new.self) c.args.out.now c.args.out.now (nothing_same c.args.out.now);
+      told = λ is. inl (nothing_same c.args.out.now);
       others = changes_kept g.F.Files.is_known (c.args.asked.now.store.now ∷ []) (bytes c.args.files.now) (bytes c.open_store.new.self) (bytes c.input.new.self)
           c.input.ensures.kept c.open_store.ensures.others;
     })
@@ -71,7 +72,15 @@ pub peer_to-requires-clause-there : goal.peer_to-requires-clause-there
 peer_to-requires-clause-there g c κs within =
     let name = c.args.asked.now.store.now in
     let same = ap (λ (h : FilesHeld). h name) (c.watch-watch.ensures.kept ∙ c.input.ensures.kept) in
-    λ is. c.in-Some.ensures.held ∙ sym (same ∙ c.in-Some.ensures.there is)
+    λ is. sym (same ∙ c.in-Some.ensures.there is)
+
+pub peer_to-requires-clause-made : goal.peer_to-requires-clause-made
+peer_to-requires-clause-made g c κs within =
+    let bytes = g.F.Files.bytes in
+    let name = c.args.asked.now.store.now in
+    let same = ap (λ (h : FilesHeld). h name) (c.watch-watch.ensures.kept ∙ c.input.ensures.kept) in
+    λ is. subst IsSome (sym (same ∙ c.in-Some.ensures.there is ∙ c.in-Some.ensures.held
+    ∙ ap (λ (k : Bool). opened_bytes k (bytes c.args.files.now name)) is)) refl
 
 pub returns-in_default-clause-keeps : goal.returns-in_default-clause-keeps
 returns-in_default-clause-keeps g c =
@@ -86,7 +95,8 @@ returns-clause-keeps g c =
     let name = c.args.asked.now.store.now in
     let same = ap (λ (h : FilesHeld). h name) (c.watch-watch.ensures.kept ∙ c.input.ensures.kept) in
     keeps_from g.F.Files.is_known name (bytes c.args.files.now) (bytes c.watch-watch.new.self) (bytes c.peer_to.new.files)
-    (λ is. same ∙ c.in-Some.ensures.there is) c.peer_to.ensures.keeps
+    (λ is. same ∙ c.in-Some.ensures.there is ∙ c.in-Some.ensures.held ∙ ap (λ (k : Bool). opened_bytes k (bytes c.args.files.now name)) is)
+    c.peer_to.ensures.keeps
 
 pub returns-clause-holds : goal.returns-clause-holds
 returns-clause-holds g c =
@@ -100,15 +110,12 @@ returns-clause-holds g c =
     let r = c.peer_to.result in
     let same = ap (λ (h : FilesHeld). h name) (c.watch-watch.ensures.kept ∙ c.input.ensures.kept) in
     let left = c.in_ok-lines.ensures.whole ∙ c.input.ensures.read ∙ c.in-Some.ensures.input in
-    holds_from known p name (g.F.Files.input_bytes c.args.files.now) before mid after r (λ is. same ∙ c.in-Some.ensures.there is)
+    holds_from known p name (g.F.Files.input_bytes c.args.files.now) before mid after r
+    (λ is. same ∙ c.in-Some.ensures.there is ∙ c.in-Some.ensures.held ∙ ap (λ (k : Bool). opened_bytes k (bytes c.args.files.now name)) is)
     (subst (λ (input : Option (List ℕ)). OnOk r (HoldsReached known p name input mid after)) left c.peer_to.ensures.holds)
 
 pub returns-in_default-clause-told : goal.returns-in_default-clause-told
-returns-in_default-clause-told g c =
-    let bytes = g.F.Files.bytes in
-    let t = c.args.out.now in
-    told_nothing g.F.Files.is_known (asked_by c.args.log.now c.args.asked.now) c.args.asked.now.store.now (g.F.Files.input_bytes c.args.files.now)
-    (bytes c.args.files.now) (bytes c.explain_trouble.new.files) t t (nothing_same t)
+returns-in_default-clause-told g c = λ is. inl (nothing_same c.args.out.now)
 
 pub returns-clause-told : goal.returns-clause-told
 returns-clause-told g c =
@@ -123,5 +130,6 @@ returns-clause-told g c =
     let u = c.peer_to.new.out in
     let same = ap (λ (h : FilesHeld). h name) (c.watch-watch.ensures.kept ∙ c.input.ensures.kept) in
     let left = c.in_ok-lines.ensures.whole ∙ c.input.ensures.read ∙ c.in-Some.ensures.input in
-    told_from known p name (g.F.Files.input_bytes c.args.files.now) before mid after t u (λ is. same ∙ c.in-Some.ensures.there is)
+    told_from known p name (g.F.Files.input_bytes c.args.files.now) before mid after t u
+    (λ is. same ∙ c.in-Some.ensures.there is ∙ c.in-Some.ensures.held ∙ ap (λ (k : Bool). opened_bytes k (bytes c.args.files.now name)) is)
     (subst (λ (input : Option (List ℕ)). KeepsTold known p name input mid after t u) left c.peer_to.ensures.told)

@@ -81,7 +81,7 @@ returns-in-Ok-clause-told g c =
     let from : Reached = record { held = held_by old; begun = false } in
     let opens = ap (λ (log : Ordering). let r : Reached = record { held = record { log = log; chain = chain }; begun = false } in r) c.in-Ok.ensures.unread in
     closed_told g.F.Files.is_known name (bytes c.args.files.now) (bytes c.peer_behind-ended.new.files) (bytes c.close_store.new.self) (contents c.args.file)
-    (contents c.into_file.result) c.requires.there c.peer_behind-ended.ensures.kept c.close_store.ensures.stored p input chain c.in-Ok.cut from
+    (contents c.into_file.result) c.requires.there c.requires.made c.peer_behind-ended.ensures.kept c.close_store.ensures.stored p input chain c.in-Ok.cut from
     (HoldsChain contents old) t u c.in-Ok.ensures.opened c.in-Ok.ensures.lawful opens c.in-Ok.ensures.holds
     (subst (λ (d : g.row.F-Store.Denot). BeginsSo (ComesBehind chain c.in-Ok.cut (λ rest. (last : Reached) × LinesTo p from input rest last
     × (HoldsChain contents old → StartsWith (contents d) last.held.chain))) t u) (sym c.into_file.ensures) c.peer_behind-ended.ensures.told)
@@ -90,13 +90,16 @@ pub returns-in-Err-clause-told : goal.returns-in-Err-clause-told
 returns-in-Err-clause-told g c =
     let bytes = g.F.Files.bytes in
     let p = peer_of c.args.setting.now.answering in
-    let held = g.F.Store.Write.contents c.args.file in
+    let contents = g.F.Store.Write.contents in
+    let held = contents c.args.file in
     let cause = c.in-Err.unopened.refusal in
     let t = c.args.out.now in
     let u = c.end-failure.new.out in
-    unopened_told g.F.Files.is_known p c.args.setting.now.store.now c.args.lines.now.left held (bytes c.args.files.now) (bytes c.close_store-in-Err.new.self) t u
-    c.requires.there (start_ended (TellsUnopened p.log.genesis.rules.value held) t u c.end-failure.result (store_text cause) c.end-failure.ensures.ends
-    (cause, c.in-Err.ensures.refused, refl))
+    unopened_told g.F.Files.is_known c.args.setting.now.store.now (bytes c.args.files.now) (bytes c.explain_store.new.files)
+    (bytes c.close_store-in-Err.new.self) held (contents c.in-Err.unopened.file) c.requires.there c.requires.made
+    c.explain_store.ensures.kept c.close_store-in-Err.ensures.stored p c.args.lines.now.left t u
+    (start_ended (TellsUnopened p.log.genesis.rules.value held) t u c.end-failure.result (store_text cause)
+    c.end-failure.ensures.ends (cause, c.in-Err.ensures.refused, refl))
 
 pub returns-in-Ok-clause-keeps : goal.returns-in-Ok-clause-keeps
 returns-in-Ok-clause-keeps g c =
@@ -107,7 +110,7 @@ returns-in-Ok-clause-keeps g c =
     let new = c.peer_behind-ended.new.reader.peer in
     let kept = keeps_on (contents c.args.file) (contents (file_of old)) (contents (file_of new)) c.in-Ok.ensures.keeps c.peer_behind-ended.ensures.stores.0 in
     closed_keeps g.F.Files.is_known name (bytes c.args.files.now) (bytes c.peer_behind-ended.new.files) (bytes c.close_store.new.self) (contents c.args.file)
-    (contents c.into_file.result) c.requires.there c.peer_behind-ended.ensures.kept c.close_store.ensures.stored
+    (contents c.into_file.result) c.requires.there c.requires.made c.peer_behind-ended.ensures.kept c.close_store.ensures.stored
     (subst (λ (d : g.row.F-Store.Denot). KeepsRecords (contents c.args.file) (contents d)) (sym c.into_file.ensures) kept)
 
 pub returns-in-Ok-clause-holds : goal.returns-in-Ok-clause-holds
@@ -126,8 +129,8 @@ returns-in-Ok-clause-holds g c =
     let holds = held_then (contents c.args.file) (HoldsRecords (contents (file_of old)) chain) (OnOk r (HoldsRecords (contents (file_of new.peer)) last))
     c.in-Ok.ensures.holds c.peer_behind-ended.ensures.stores.1 in
     closed_holds g.F.Files.is_known name (bytes c.args.files.now) (bytes c.peer_behind-ended.new.files) (bytes c.close_store.new.self) (contents c.args.file)
-    (contents c.into_file.result) c.requires.there c.peer_behind-ended.ensures.kept c.close_store.ensures.stored p c.args.lines.now.left chain c.in-Ok.cut from
-    (reached new) r c.in-Ok.ensures.opened c.in-Ok.ensures.lawful starts c.peer_behind-ended.ensures.leads
+    (contents c.into_file.result) c.requires.there c.requires.made c.peer_behind-ended.ensures.kept c.close_store.ensures.stored p c.args.lines.now.left chain
+    c.in-Ok.cut from (reached new) r c.in-Ok.ensures.opened c.in-Ok.ensures.lawful starts c.peer_behind-ended.ensures.leads
     (subst (λ (d : g.row.F-Store.Denot). IfSome (contents c.args.file) (λ _. OnOk r (HoldsRecords (contents d) last))) (sym c.into_file.ensures) holds)
 
 pub returns-in-Ok-clause-others : goal.returns-in-Ok-clause-others
@@ -140,8 +143,9 @@ pub returns-in-Err-clause-keeps : goal.returns-in-Err-clause-keeps
 returns-in-Err-clause-keeps g c =
     let bytes = g.F.Files.bytes in
     let contents = g.F.Store.Write.contents in
-    closed_keeps g.F.Files.is_known c.args.setting.now.store.now (bytes c.args.files.now) (bytes c.explain_store.new.files) (bytes c.close_store-in-Err.new.self)
-    (contents c.args.file) (contents c.in-Err.unopened.file) c.requires.there c.explain_store.ensures.kept c.close_store-in-Err.ensures.stored c.in-Err.ensures.keeps
+    closed_keeps g.F.Files.is_known c.args.setting.now.store.now (bytes c.args.files.now) (bytes c.explain_store.new.files)
+    (bytes c.close_store-in-Err.new.self) (contents c.args.file) (contents c.in-Err.unopened.file) c.requires.there c.requires.made
+    c.explain_store.ensures.kept c.close_store-in-Err.ensures.stored c.in-Err.ensures.keeps
 
 pub returns-in-Err-clause-others : goal.returns-in-Err-clause-others
 returns-in-Err-clause-others g c =
