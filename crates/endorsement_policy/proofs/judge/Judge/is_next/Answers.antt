@@ -22,5 +22,5 @@ returns c =
     let same : with_standing c.self.inside.rules.now c.self.inside.standing ≡ listed = ap (λ (j : Judge). j.listed) c.self.view_is in
     let orgs : c.organisations-organisations.result.now ≡ listed.installed.orgs =
     c.organisations-organisations.ensures ∙ ap (λ (i : Installed). i.orgs) c.installed.ensures ∙ ap (λ (l : Listed). l.installed.orgs) same in
-    let value = c.value_of_membership.ensures ∙ ap (λ (j : Judge). get (plain_in j.entries) membership_key) c.self.view_is in
+    let value = c.value_of_membership-value.ensures ∙ ap (λ (j : Judge). get (plain_in j.entries) membership_key) c.self.view_is in
     by_equal c.is_next.result c.args.membership.now _ _ _ _ orgs value c.is_next.ensures
