@@ -111,7 +111,6 @@ class Chain:
         self.height = int(line.split()[1])
         self.say(line)
         self.lines = Lines.by(self.config.ledger.genesis)
-        self.ticks = dataclasses.replace(self.config.ticks, last=self.lines.shares.last)
         self.times = Times(self.config.ledger.store + ".times")
 
     def works(self) -> list[Coroutine[Any, Any, None]]:

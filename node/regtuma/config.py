@@ -9,11 +9,11 @@ import tomllib
 from collections.abc import Iterable
 from typing import Any
 
-from .entries import Log
+from .entries import Lines, Log, LogError
 from .etcd import EtcdLog
 from .fields import LOCAL_URL, OF_ORGANISATIONS, ORGANISATION, SOCKET, TABLES, Field, is_loopback, place
 from .filed import FileLog
-from .ticks import Ticks
+from .ticks import LAST_BLOCKS, Ticks
 
 # Files that need not be there.
 MADE = (("ledger", "store"), ("log", "file"))
@@ -286,7 +286,7 @@ def read(file: str) -> Config:
     urls = {it: nodes[it].rstrip("/") for it in nodes}
     return Config(file=file, organisation=organisation, listen=top["listen"], page=top.get("page", ""), ledger=Ledger(**ledger),
                   log_file="", tls=Files(**tls), etcd=Etcd(**etcd), authorities=authorities, nodes=urls, rights=reader.table("rights"),
-                  ticks=ticks_of(reader))
+                  ticks=ticks_of(reader, ledger["genesis"]))
 
 
 def read_local(reader: Reader, top: Table, ledger: Table) -> Config:
@@ -304,7 +304,8 @@ def read_local(reader: Reader, top: Table, ledger: Table) -> Config:
     check_others(reader, top["organisation"], nodes)
     return Config(file=str(reader.path), organisation=top["organisation"], listen=top["listen"], page="", ledger=Ledger(**ledger),
                   log_file=reader.near("log", reader.table("log"), "file")["file"], tls=Files("", ""), etcd=Etcd("", "", [], ""),
-                  authorities={}, nodes={it: nodes[it].rstrip("/") for it in nodes}, rights={}, ticks=ticks_of(reader))
+                  authorities={}, nodes={it: nodes[it].rstrip("/") for it in nodes}, rights={},
+                  ticks=ticks_of(reader, ledger["genesis"]))
 
 
 def check_organisations(reader: Reader, own: str, authorities: dict[str, str], nodes: dict[str, str]) -> None:
@@ -363,13 +364,23 @@ def owners_of(file: str) -> list[str | None]:
     return [it[0] if len(it) == 1 else None for it in named]
 
 
-def ticks_of(reader: Reader) -> Ticks:
+def last_block_of(genesis: str) -> int:
+    """The last block of the ledger. Of a file that is no genesis file the node says so where it begins."""
+    try:
+        return Lines.by(genesis).shares.last
+    except LogError:
+        return LAST_BLOCKS[1]
+
+
+def ticks_of(reader: Reader, genesis: str) -> Ticks:
     given = dict(reader.table("ticks"))
     if ("begins" in given) != ("lasts_days" in given):
         raise reader.mistake("ticks", "begins", "and lasts_days go together: name both, or none")
     if begins := given.get("begins"):
         given["begins"] = datetime.datetime.combine(begins, datetime.time(), datetime.timezone.utc).timestamp()
-    ticks = Ticks(**given)
+    ticks = Ticks(**given, last=last_block_of(genesis))
     if ticks.longest < ticks.wait:
         raise reader.mistake("ticks", "longest", f"is {ticks.longest:g}, and below wait, which is {ticks.wait:g}")
+    if ticks.begins and ticks.burst >= ticks.share:
+        raise reader.mistake("ticks", "burst", f"is {ticks.burst:,}, and has to be below an organisation's share, {ticks.share:,} blocks")
     return ticks

@@ -6,6 +6,8 @@ import re
 from collections.abc import Callable
 from urllib.parse import urlsplit
 
+from .ticks import LAST_BLOCK
+
 RIGHTS = ("read", "observe", "evaluate", "submit", "endorse", "agree")
 ORGANISATION = re.compile("[A-Za-z0-9_]{1,32}")
 CALLER = re.compile(r"[A-Za-z0-9_*]{1,32}/[A-Za-z0-9_.*@-]{1,64}")
@@ -31,7 +33,7 @@ def text(value: object) -> bool:
 
 def number(least: float, most: float, whole: bool = True) -> Field:
     kinds = (int,) if whole else (int, float)
-    words = f"{'a whole number' if whole else 'a number'} from {least:g} to {most:g}"
+    words = f"{'a whole number' if whole else 'a number'} from {least} to {most}"
     return Field(lambda it: isinstance(it, (int, float)) and type(it) in kinds and least <= it <= most, words)
 
 
@@ -80,7 +82,7 @@ TABLES: dict[str, dict[str, Field]] = {
                                "a name of 1 to 32 letters, digits and _", True),
          "listen": Field(text, f"{SOCKET}, or where [log] is an address and a port", True), "page": Field(text, SOCKET)},
     "ledger": {"program": NEEDED_FILE, "genesis": NEEDED_FILE, "store": NEEDED_FILE, "keys": FILE, "modules": FILE,
-               "template": FILE, "seen": number(1, 65535),
+               "template": FILE, "seen": number(1, LAST_BLOCK),
                "approver": Field(listed(text), "a command, as a list of words"),
                "past_forks": Field(listed(lambda it: isinstance(it, str) and FORK.fullmatch(it) is not None),
                                    'a list of what was looked into, each an organisation and a block, or an organisation, as ["Shop 64", "Depot"]')},
@@ -91,7 +93,7 @@ TABLES: dict[str, dict[str, Field]] = {
              "user": Field(text, "the name of a user of etcd"), "password_file": FILE,
              "authorities": NEEDED_FILE, "certificate": NEEDED_FILE, "key": NEEDED_FILE},
     "ticks": {"wait": number(0.01, 3600, whole=False), "longest": number(0.01, 86400, whole=False),
-              "begins": Field(date, "a date, as 2026-12-01"), "lasts_days": number(1, 36500), "burst": number(0, 40000)},
+              "begins": Field(date, "a date, as 2026-12-01"), "lasts_days": number(1, 36500), "burst": number(0, LAST_BLOCK)},
     "rights": {it: CALLERS for it in RIGHTS},
 }
 # Tables whose names are those of organisations.

@@ -17,8 +17,9 @@ LAST_BLOCKS = {1: 65_535, 2: LAST_BLOCK}
 # One of so many blocks that are left is the others' by itself.
 SHARE_OF = 4
 DAY = 86400
-# So few blocks are told of, wherever the chain is on its line.
-FEW = 5000
+# So few blocks are told of, wherever the chain is on its line: this number, or this part of a long chain, which is 23 days at half a
+# second under rules 2.
+FEW, FEW_OF = 5000, 1000
 
 
 @dataclasses.dataclass(frozen=True)
@@ -36,6 +37,11 @@ class Ticks:
     def share(self) -> int:
         """How many blocks one organisation brings about where nobody else does."""
         return self.last * (SHARE_OF - 1) // SHARE_OF
+
+    @property
+    def few(self) -> int:
+        """Below how many blocks that are left people are told so."""
+        return max(FEW, self.last // FEW_OF)
 
     def each(self) -> float:
         """The seconds from one block to the next along the line."""
@@ -69,10 +75,10 @@ class Ticks:
         left = self.last - height
         if left == 0:
             return f"the chain is full: it has its {self.last:,} blocks, and takes no calls"
-        if (share := min(left, share)) < FEW:
-            return f"the chain has {left} blocks left, and this organisation's share of these is {share}"
+        if (share := min(left, share)) < self.few:
+            return f"the chain has {left:,} blocks left, and this organisation's share of these is {share:,}"
         if wait > self.wait:
-            return f"this organisation is ahead of its plan, so it asks for a block after {wait:.0f} s: {share} blocks of its share are left"
+            return f"this organisation is ahead of its plan, so it asks for a block after {wait:.0f} s: {share:,} blocks of its share are left"
         return ""
 
     def is_full(self, number: int) -> bool:

@@ -15,6 +15,7 @@ from aiohttp.test_utils import TestClient, TestServer
 from regtuma import api, config, gateway, load, page, ticks
 from regtuma.chain import Awaited, Chain
 from regtuma.endorsing import Endorsing
+from regtuma.entries import Lines
 from regtuma.fields import RIGHTS
 from regtuma.filters import FilterEnded, TooLong
 from regtuma.gateway import Gateway
@@ -167,6 +168,22 @@ class Reads(Case):
         with mock.patch.object(self.chain.peer, "text_of", side_effect=TooLong("too long")):
             self.assertEqual(await self.get("/history/a"), (422, {"why": "too long"}))
 
+    async def test_past_65_535_blocks(self):
+        for height in (65_536, 70_000, ticks.LAST_BLOCK):
+            self.chain.height = height
+            self.assertEqual(await self.get("/height"), (200, {"height": height}))
+            status, block = await self.get(f"/blocks/{height}")
+            self.assertEqual((status, block["block"]), (200, height))
+            lines = (await self.get(f"/blocks?from={height - 1}&to={ticks.LAST_BLOCK}"))[1].splitlines()
+            self.assertEqual([json.loads(it)["block"] for it in lines], [height - 1, height])
+            for words, last in ((f"?from={height - 1}", None), ("", str(height - 2))):
+                headers = {"Caller": "Maker/alice", **({"Last-Event-ID": last} if last else {})}
+                async with self.client.get(f"/events{words}", headers=headers) as stream:
+                    text = "".join([(await stream.content.readline()).decode() for _ in range(8)])
+                self.assertEqual(re.findall(r"id: (\d+)\nevent", text), [str(height - 1), str(height)])
+            self.assertEqual((await self.get(f"/state?height={height}"))[0], 200)
+            self.assertIn(f'\n{{"at":1.5,"block": {height},', (await self.get("/"))[1])
+
     async def test_a_height_is_waited_for(self):
         with mock.patch.object(Chain, "at_least", return_value=False):
             self.assertEqual((await self.get("/state/a?height=9"))[0], 503)
@@ -271,6 +288,14 @@ class Health(Case):
         for line in ("regtuma_height 4.0", f"regtuma_blocks_left {LAST_BLOCK - 4}.0", 'regtuma_counted_total{what="flag 0"} 7.0',
                      'regtuma_requests_total{route="/height",status="200"} 1.0'):
             self.assertIn(line, text)
+
+    async def test_metrics_of_a_long_chain_are_whole_numbers(self):
+        self.chain.ticks, self.chain.lines = ticks.Ticks(last=ticks.LAST_BLOCK), Lines(last=ticks.LAST_BLOCK)
+        for height in (65_536, 70_001, ticks.LAST_BLOCK - 1):
+            self.chain.height = height
+            text = (await self.get("/metrics"))[1]
+            found = {name: float(value) for name, value in re.findall(r"^regtuma_(height|blocks_left|share_left) (\S+)$", text, re.MULTILINE)}
+            self.assertEqual(found, {"height": height, "blocks_left": ticks.LAST_BLOCK - height, "share_left": 3_000_000_000})
 
 
 class Calls(Case):

@@ -2,6 +2,7 @@
 import asyncio
 import dataclasses
 import json
+import tempfile
 import time
 import unittest
 from collections.abc import Callable
@@ -9,7 +10,7 @@ from unittest import mock
 
 import support
 from regtuma import chain as chains
-from regtuma import config, endorsing, gateway, load, ticks
+from regtuma import config, endorsing, gateway, load, ticks, times
 from regtuma.chain import Asking, Awaited, Chain
 from regtuma.endorsing import Agreed, Endorsing
 from regtuma.entries import Entry, LogError
@@ -92,10 +93,10 @@ class Times:
 
 class Case(unittest.IsolatedAsyncioTestCase):
     async def asyncSetUp(self):
-        folder = support.Folder()
-        self.addCleanup(folder.close)
+        self.folder = support.Folder()
+        self.addCleanup(self.folder.close)
         self.said = []
-        self.config = folder.config()
+        self.config = self.folder.config()
         self.chain = Chain(self.config, FakeLog(), self.said.append)
         self.chain.times, self.chain.peer = Times(), Answers(satisfying=[("Maker", "Carrier"), ("Carrier", "Shop")])
         self.endorsing = Endorsing(self.config, self.chain)
@@ -328,9 +329,42 @@ class End(Case):
         await self.passed(f"tx {LAST_BLOCK}.0 ab 0 -", f"committed {LAST_BLOCK} flags 0")
         self.assertEqual((inside.result()["block"], outside.result()), (LAST_BLOCK, {"id": "cd", "refused": 422}))
 
+    async def test_under_rules_2_it_goes_on_past_65_535_blocks(self):
+        """And ends with the last one of these rules."""
+        last = LAST_BLOCKS[2]
+        self.chain.ticks = dataclasses.replace(self.chain.ticks, last=last)
+        for number in (65_535, 65_536, 70_000, last - 1, last):
+            inside, outside = self.chain.wait_for("ab"), self.chain.wait_for("cd")
+            await self.passed(f"tx {number}.511 ab 0 -", f"committed {number} flags 0")
+            told = inside.result()
+            self.assertEqual((told["block"], told["place"], self.chain.height, self.chain.most_blocks), (number, 511, number, number + chains.AHEAD))
+            self.assertEqual((self.chain.is_full, outside.done()), (number == last, number == last))
+            self.chain.forget("cd", outside)
+        with self.assertRaises(Refused):
+            self.gateway.check_open()
+
+    async def test_a_node_takes_the_last_block_from_the_rules(self):
+        (self.folder.path / "genesis.json").write_text(json.dumps({"count": 1, "preferred": 1, "rules": 2}))
+        self.assertEqual(Chain(self.folder.config(), FakeLog(), self.said.append).ticks.last, LAST_BLOCKS[2])
+
     async def test_reads_are_answered(self):
         self.chain.height = LAST_BLOCK
         self.assertIn('"at":1.5', await self.chain.block(LAST_BLOCK))
+
+
+class Clock(unittest.TestCase):
+    def test_a_block_has_its_time_whatever_its_number(self):
+        """Of those before, which were committed elsewhere, none is told."""
+        with tempfile.TemporaryDirectory() as room:
+            kept = times.Times(f"{room}/times")
+            for number in (65_536, 70_000, LAST_BLOCKS[2]):
+                kept.note(number)
+                with mock.patch("time.time", return_value=1.0):
+                    kept.note(number)
+            found = [kept.of(it) for it in (65_536, 70_000, LAST_BLOCKS[2])]
+            self.assertTrue(all(it and it > 1.0 for it in found), found)
+            self.assertEqual([kept.of(it) for it in (1, 65_535, 65_537, LAST_BLOCKS[2] - 1)], [None] * 4)
+            kept.file.close()
 
 
 class Entries(Case):

@@ -1,4 +1,5 @@
 """Each mistake of a configuration is told in one sentence, with its place."""
+import json
 import pathlib
 import subprocess
 import unittest
@@ -22,10 +23,10 @@ MISTAKES = [
     ('genesis = "genesis.json"', 'genesis = "other.json"', "line 7: [ledger] genesis names "),
     ('store = "chain.store"', 'store = "nowhere/chain.store"', "line 8: [ledger] store names "),
     ('keys = "maker.key"', 'key = "maker.key"', "line 9: [ledger] key is no name that is known here: possible are program, genesis, store, keys"),
-    ('keys = "maker.key"', 'seen = 0', "line 9: [ledger] seen has to be a whole number from 1 to 65535, and is 0"),
+    ('keys = "maker.key"', 'seen = 0', "line 9: [ledger] seen has to be a whole number from 1 to 4000000000, and is 0"),
     ('keys = "maker.key"', 'seen = true', "[ledger] seen has to be a whole number"),
     ('keys = "maker.key"', 'endorsers = 1', "line 9: [ledger] endorsers is no name that is known here: possible are program, genesis, "),
-    ('keys = "maker.key"', 'seen = 1.5', "[ledger] seen has to be a whole number from 1 to 65535, and is 1.5"),
+    ('keys = "maker.key"', 'seen = 1.5', "[ledger] seen has to be a whole number from 1 to 4000000000, and is 1.5"),
     ('keys = "maker.key"', 'approver = "yes"', "[ledger] approver has to be a command, as a list of words"),
     ('keys = "maker.key"', 'past_forks = true', "[ledger] past_forks has to be a list of what was looked into"),
     ('keys = "maker.key"', 'past_forks = ["Shop 0"]', "[ledger] past_forks has to be a list of what was looked into"),
@@ -51,6 +52,8 @@ MISTAKES = [
     ('wait = 0.5', 'wait = 701', "[ticks] longest is 700, and below wait, which is 701"),
     ('wait = 0.5', 'begins = 2026-12-01', "[ticks] begins and lasts_days go together: name both, or none"),
     ('wait = 0.5', 'begins = "2026-12-01"\nlasts_days = 9', "[ticks] begins has to be a date, as 2026-12-01"),
+    ('wait = 0.5', 'begins = 2026-12-01\nlasts_days = 9\nburst = 49151', "[ticks] burst is 49,151, and has to be below an organisation's share, 49,151 blocks"),
+    ('wait = 0.5', 'burst = 4000000001', "[ticks] burst has to be a whole number from 0 to 4000000000, and is 4000000001"),
     ('listen = ', 'listen ', "node.toml is no TOML: "),
     ('organisation = "Maker"', 'organisation = "Maker"\nledger = 1', "node.toml is no TOML: "),
 ]
@@ -84,6 +87,16 @@ class Mistakes(unittest.TestCase):
         found = self.folder.config()
         self.assertEqual((found.organisation, found.ledger.seen, found.ticks.wait), ("Maker", 64, 0.5))
         self.assertEqual(found.ledger.store, str(self.folder.path / "chain.store"))
+
+    def test_numbers_of_blocks_go_by_the_rules_of_the_ledger(self):
+        genesis, plan = self.folder.path / "genesis.json", "begins = 2026-12-01\nlasts_days = 9\nburst = "
+        for rules, last, burst in ((1, 65_535, 49_150), (2, 4_000_000_000, 49_151), (2, 4_000_000_000, 2_999_999_999)):
+            genesis.write_text(json.dumps({"count": 1, "preferred": 1, "rules": rules}))
+            found = self.folder.config(("wait = 0.5", f"{plan}{burst}"), ('keys = "maker.key"', 'seen = 70000'))
+            self.assertEqual((found.ledger.seen, found.ticks.last, found.ticks.burst), (70_000, last, burst))
+            self.assertGreater(found.ticks.each(), 0)
+        with self.assertRaisesRegex(config.Mistake, "burst is 3,000,000,000, and has to be below an organisation's share, 3,000,000,000 blocks"):
+            self.folder.config(("wait = 0.5", f"{plan}3000000000"))
 
     def test_each_mistake_is_one_sentence(self):
         for old, new, told in MISTAKES:

@@ -11,6 +11,7 @@ import unittest
 import support
 from regtuma import entries
 from regtuma.entries import Entry, Lines, LogError, Shares
+from regtuma.ticks import LAST_BLOCKS
 
 # Envelopes of the fewest bytes, which nobody has endorsed: calls of `a` and `b` with no argument, no reads, no writes.
 ENVELOPE, OTHER = "0161" + "00" * 27, "0162" + "00" * 27
@@ -64,6 +65,15 @@ class Counts(unittest.TestCase):
         refill = [("Maker/genesis", f"genesis {'0f' * 32}"), ("Maker/refill-1", f"{ENVELOPE}\n{OTHER}")]
         given = [("Shop/seen-2", "seen Shop 2 00"), ("Shop/seen-3", "seen Shop 3 00")]
         self.assertEqual(counted(Lines(), *refill, *given)[3:], ["4.0 seen Shop 2 00"])
+
+    def test_numbers_past_65_535_count_under_rules_2(self):
+        for rules, last in LAST_BLOCKS.items():
+            lines = Lines(last=last)
+            lines.envelopes, lines.ticks, lines.behind = 70_000, 69_999, {b"Maker"}
+            given = [(f"Shop/seen-{it}", f"seen Shop {it} 00") for it in (65_535, 65_536, 70_000, 70_001)]
+            wanted = ["2.0 seen Shop 65535 00", "3.0 seen Shop 65536 00", "4.0 seen Shop 70000 00"][:3 if rules == 2 else 1]
+            self.assertEqual(counted(lines, *given, ("Maker/tick-70000", "tick"), ("Maker/a", ENVELOPE), ("Maker/tick-70001", "tick")),
+                             [*wanted, "6.0 tick", f"7.0 {ENVELOPE}", "8.0 tick"])
 
     def test_the_first_line_says_which_genesis_counts(self):
         first, other = (f"genesis {it * 32}" for it in ("0f", "f0"))

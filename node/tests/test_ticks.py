@@ -72,12 +72,12 @@ class Words(unittest.TestCase):
     def test_the_end_comes_near(self):
         rule = Ticks()
         said = [rule.warning(*it, rule.wait) for it in ((55535, ticks.FEW), (55535, ticks.FEW - 1), (LAST_BLOCK - 1, 0), (LAST_BLOCK, 0))]
-        self.assertEqual(said, ["", "the chain has 10000 blocks left, and this organisation's share of these is 4999",
+        self.assertEqual(said, ["", "the chain has 10,000 blocks left, and this organisation's share of these is 4,999",
                                 "the chain has 1 blocks left, and this organisation's share of these is 0",
                                 "the chain is full: it has its 65,535 blocks, and takes no calls"])
 
     def test_ahead_of_the_plan(self):
-        said = "this organisation is ahead of its plan, so it asks for a block after 700 s: 40000 blocks of its share are left"
+        said = "this organisation is ahead of its plan, so it asks for a block after 700 s: 40,000 blocks of its share are left"
         self.assertEqual([plan(365).warning(5000, 40000, it) for it in (0.5, 700.0)], ["", said])
 
     def test_the_last_block_is_the_end(self):
@@ -89,6 +89,13 @@ class Words(unittest.TestCase):
         self.assertEqual((rule.share, int(rule.shortest_days() / 365)), (3_000_000_000, 47))
         self.assertEqual(rule.warning(65_535, rule.share, rule.wait), "")
         self.assertEqual(dataclasses.replace(plan(1825), last=rule.last).promise(), "")
+
+    def test_of_a_long_chain_the_end_is_told_weeks_before(self):
+        rule = Ticks(last=LAST_BLOCKS[2])
+        self.assertEqual((rule.few, int(rule.few * rule.wait / DAY), Ticks().few), (4_000_000, 23, ticks.FEW))
+        said = [rule.warning(it, rule.share, rule.wait) for it in (70_000, rule.last - rule.few, rule.last - rule.few + 1, rule.last)]
+        self.assertEqual(said, ["", "", "the chain has 3,999,999 blocks left, and this organisation's share of these is 3,999,999",
+                                "the chain is full: it has its 4,000,000,000 blocks, and takes no calls"])
 
 
 if __name__ == "__main__":
