@@ -92,10 +92,11 @@ def public_of(seed: bytes) -> str:
 
 
 class Chain:
-    """Blocks of transactions whose flags are worked out as they are added. Two tags are wanted of each."""
+    """Blocks of transactions whose flags are worked out as they are added. Two tags are wanted of each. It may be the rest of a chain
+    whose blocks before wrote nothing."""
 
-    def __init__(self, rules: int = 1) -> None:
-        self.rules, self.blocks = rules, list[dict]()
+    def __init__(self, rules: int = 1, first: int = 1) -> None:
+        self.rules, self.first, self.blocks = rules, first, list[dict]()
         # The version and the value of each key, and before the block that is made; and the keys that this wrote so far.
         self.state: dict[bytes, tuple[str, str]] = {}
         self.before: dict[bytes, tuple[str, str]] = {}
@@ -216,7 +217,7 @@ class Chain:
 
     def add(self, *proposed: dict) -> None:
         """Puts transactions into the next block."""
-        number = len(self.blocks) + 1
+        number = self.first + len(self.blocks)
         self.before, self.written = dict(self.state), set()
         txs: list[dict] = [
             {**tx, "endorsements": [{**it, "right": self.is_right(it["org"], it["tag"])} for it in tx["endorsements"]]}
@@ -285,9 +286,9 @@ def some_transaction(chain: Chain, chance: random.Random, before: list[dict]) ->
     return chain.transaction(reads=[key, other], writes=[(key, value)], argument=b"transfer " + key + b" " + value)
 
 
-def made_up(blocks: int, rules: int = 1) -> Chain:
+def made_up(blocks: int, rules: int = 1, first: int = 1) -> Chain:
     """A chain of so many blocks, of all flags."""
-    chain, chance = Chain(rules), random.Random(1)
+    chain, chance = Chain(rules, first), random.Random(1)
     before: list[dict] = []
     for _ in range(blocks):
         txs = [some_transaction(chain, chance, before) for _ in range(chance.randrange(1, 7))]
