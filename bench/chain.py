@@ -1,16 +1,22 @@
 """Chains that the program itself makes, and the files of them that its commands read."""
 import dataclasses
+import hmac
 import itertools
 import json
 import pathlib
 from collections.abc import Iterable, Iterator
 
+# This comes first: it says where the node's modules are.
 from measure import ORGANISATIONS, ROOT, fail, genesis, said
+from regtuma.wire import Call, Endorsement, Envelope, Payload, Read, Write
 
 TWO_OF_THREE = "OutOf(2, 'A', 'B', 'C')"
 # The seeds of the organisations, where they sign.
 SEEDS = [(name * 32).encode() for name in ORGANISATIONS]
 KEYS_MODULE = ROOT / "bench/keys.wasm"
+REGISTER_MODULE = ROOT / "examples/chaincode/asset_register.wasm"
+# The assets of a long chain, each of which gets a new owner in turn.
+ASSETS = 1000
 # A chaincode may write so many keys.
 MOST_WRITES = 64
 # The arguments of the calls of a block.
@@ -152,6 +158,25 @@ def amended(program: pathlib.Path, room: pathlib.Path, blocks: int) -> Chain:
     if chain.flags != ["0"] * blocks:
         fail(f"{len(chain.flags)} flags of amendments, not all of them 0")
     return chain
+
+
+def lasting() -> dict[str, object]:
+    """The genesis of a ledger whose chain may be long: each call of the asset register is a block."""
+    return genesis("assets", REGISTER_MODULE.read_bytes(), fuel=100_000, rules=2, peers=ORGANISATIONS[:1])
+
+
+def blocks_of_one() -> Iterator[bytes]:
+    """Lines of a log without end, each of which makes a block of that ledger. What its call reads and writes is worked out here: so an
+    audit, which runs it again, sees whether that is so."""
+    key = (ORGANISATIONS[0] * 32).encode()
+    for number in itertools.count(1):
+        asset, owner = f"asset{number % ASSETS}".encode(), f"owner{number}".encode()
+        call = Call("assets", b" ".join([b"transfer" if number > ASSETS else b"create", asset, owner]), number.to_bytes(16, "big"))
+        state = b"assets/asset/" + asset
+        reads = [Read(b"\0assets", None), Read(state, (number - ASSETS, 0) if number > ASSETS else None)]
+        payload = Payload(call, reads=reads, writes=[Write(state, owner)]).encode()
+        tag = hmac.digest(key, payload, "sha256")
+        yield b"log %d %s\n" % (number, Envelope(payload, [Endorsement(ORGANISATIONS[0], tag)]).encode().hex().encode())
 
 
 def of_keys(program: pathlib.Path, room: pathlib.Path, blocks: Iterable[Block], calls: int, reorder: bool = False) -> Chain:

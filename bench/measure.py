@@ -14,6 +14,7 @@ from typing import NoReturn
 ROOT = pathlib.Path(__file__).resolve().parent.parent
 sys.path.insert(0, str(ROOT / "python"))
 import kit
+from program import NoProgram, find
 
 LEDGER = ROOT / "crates/ledger_cli/out/ledger_cli"
 REGISTER = ROOT / "examples/chaincode/asset_register.c"
@@ -48,6 +49,11 @@ def reader(text: str, rounds: int) -> argparse.ArgumentParser:
 
 
 def need(program: pathlib.Path) -> pathlib.Path:
+    if program == LEDGER and os.environ.get("LEDGER_UNPROVED"):
+        try:
+            return find()
+        except NoProgram as error:
+            fail(str(error))
     if not os.access(program, os.X_OK):
         fail(f"there is no program {program}: ./ledger prove makes it")
     return program.resolve()

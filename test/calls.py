@@ -19,7 +19,7 @@ from regtuma.wire import Call, Envelope, Payload
 # How long a command may take, in seconds.
 SECONDS = 120
 NONCE = "000102030405060708090a0b0c0d0e0f"
-# A chain has so many blocks at most.
+# A chain under rules 1 has so many blocks at most.
 LAST_BLOCK = 65_535
 POLICY = "OutOf(2, 'Maker', 'Carrier', 'Shop')"
 # Modules by the code of `invoke`, which traps, branches for ever, or returns 7; and one that says "not yet" and returns 4.
@@ -251,7 +251,8 @@ def chain_of(count: int) -> bytes:
 
 
 def try_full(at: Calls, last: int = LAST_BLOCK) -> None:
-    """The last block of a chain is one's, and the next call is refused. An unproved program would read such a chain for minutes."""
+    """The last block of a chain under rules 1 is one's, and the next call is refused. Under rules 2 the chain goes on. An unproved program
+    would read such a chain for minutes."""
     if last == LAST_BLOCK and program() != PROVED:
         print("calls: the program is unproved, so no full chain is tried", flush=True)
         return
@@ -260,6 +261,9 @@ def try_full(at: Calls, last: int = LAST_BLOCK) -> None:
     at.is_refused("a full chain", "refused 422", "the chain is full (422)", "put.json", "full.store", "kv")
     ran = at.call("put.json", "full.store", "kv", "--dry-run")
     at.case("a dry run on a full chain", ran.status == 0 and ran.out == "write a put 1\n", ran)
+    (at.room / "long.store").write_bytes(chain_of(last))
+    at.is_valid("the same number under rules 2", last + 1, "net/genesis.json", "long.store", "assets", "create", "pallet-1", "Maker",
+                "--keys", "net/all.key")
 
 
 def try_at_once(at: Calls) -> None:

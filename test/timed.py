@@ -18,11 +18,13 @@ OF_NOTHING = ("e5564300c360ac729086e2cc806e828a84877f1eb8e5d974d873e065224901555
               "5141438e7a100b")
 OF_ZEROS = ("9de44a3f864f0eb9cb91b673fcc0c99a12c50d9f60064ba20d24f0dcc81775a24b1695c58e25be15b283720e6eec2901af7178a597cfedb733"
             "13895c92306405")
-# How the rows of each script begin.
+# How the rows of each script begin, with these words.
 ROWS = {
     "run": ["large, instructions", "large, bytes +54", "start, commands +1", "call, proposals +6", "log by 1, transactions +6",
             "replay by 1, transactions +6", "audit, transactions +6", "rerun, transactions +6", "replay, blocks +10", "signed by 1, transactions +4", "reorder over 5 keys, txs +12", "over 5 keys +12 +2 +4"],
     "state": ["130 +2 +[0-9]+ +[0-9]+"],
+    "state --blocks 9": ["1 +3 +[0-9]+ +1[.]00", "7 +9 +[0-9]+ +[0-9.]+", "the peer at the end +[0-9]+", "a start on its store +[0-9.]+ +[0-9]+",
+                         "an audit +[0-9.]+ +[0-9]+"],
     "slowest": ["log, a block, two signatures +[0-9]", "call, instructions +[0-9]", "call, host calls, reads +[0-9]", "ask, history +[0-9]", "ask, part of a history +[0-9]",
                 "ask, block, behind amendments +[0-9]"],
     "threads": ["1 +5 ", "2 +10 ", "4 +20 "],
@@ -49,8 +51,9 @@ def try_signing(report: Report) -> None:
 def try_scripts(report: Report, tree: pathlib.Path, program: pathlib.Path, env: dict[str, str]) -> None:
     """Each script prints its rows; bench/run with a second program beside the first."""
     for name, rows in ROWS.items():
+        script, *words = name.split()
         beside = ["--beside", program] if name == "run" else []
-        ran = run([tree / "bench" / name, "1", "--small", "--program", program, *beside], tree, LONG, env)
+        ran = run([tree / "bench" / script, "1", *words, "--small", "--program", program, *beside], tree, LONG, env)
         report.case(f"bench/{name} ends", ran.status == 0, f"status {ran.status}\n{ran.out}{ran.err}"[-1500:])
         for row in rows:
             report.case(f"bench/{name}: {row}", re.search(f"^ *{row}", ran.out, re.MULTILINE) is not None, ran.out)
