@@ -168,7 +168,7 @@ class Lines:
         try:
             limits = json.loads(pathlib.Path(genesis).read_bytes())
             return cls(int(limits["count"]), int(limits["preferred"]), LAST_BLOCKS[limits.get("rules", 1)])
-        except (OSError, ValueError, KeyError, TypeError):
+        except (OSError, ValueError, KeyError, TypeError, RecursionError):
             raise LogError(f"{genesis} is no genesis file") from None
 
     def of(self, entry: Entry) -> dict[int, bytes]:

@@ -95,6 +95,10 @@ class Mistakes(unittest.TestCase):
             found = self.folder.config(("wait = 0.5", f"{plan}{burst}"), ('keys = "maker.key"', 'seen = 70000'))
             self.assertEqual((found.ledger.seen, found.ticks.last, found.ticks.burst), (70_000, last, burst))
             self.assertGreater(found.ticks.each(), 0)
+        for text in ("", "{}", "[]", "[" * 100_000, '{"count":1,"preferred":1,"rules":3}', '{"count":1,"preferred":1,"rules":[]}'):
+            genesis.write_text(text)
+            self.assertEqual(self.folder.config().ticks.last, 65_535, text[:50])
+        genesis.write_text(json.dumps({"count": 1, "preferred": 1, "rules": 2}))
         with self.assertRaisesRegex(config.Mistake, "burst is 3,000,000,000, and has to be below an organisation's share, 3,000,000,000 blocks"):
             self.folder.config(("wait = 0.5", f"{plan}3000000000"))
 
