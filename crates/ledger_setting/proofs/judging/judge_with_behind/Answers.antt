@@ -12,8 +12,8 @@ use Rattle.endorsement_policy.specs.Membership.{listed_in}
 use Rattle.ledger_setting.proofs.Judged.{flags_judged}
 use Rattle.ledger_setting.proofs.judging.judge_with_behind.Goals as goal
 
-pub check_with-endorsed-requires : goal.check_with-endorsed-requires
-check_with-endorsed-requires g c =
+pub check_with-requires : goal.check_with-requires
+check_with-requires g c =
     let r = c.args.rules.now in
     subst (λ (m : Versioned). IfSome c.args.right (λ orgs. orgs.now ≡ map (right_orgs (listed_in r (values_of m)).orgs) c.as_slice.result.now))
     (sym c.map.ensures)
