@@ -9,8 +9,6 @@ use Rattle.fab_types.specs.declared.proposal.Call.{Call}
 use Rattle.fab_types.specs.declared.proposal.Upgrade.{Upgrade}
 use Rattle.fab_types.specs.declared.proposal.Proposal.{Proposal}
 use Rattle.fab_types.specs.declared.proposal.Proposal.TheVariants as proposal
-use Rattle.ledger_model.specs.Chain.{Chain, history}
-use Rattle.ledger_model.specs.State.{state}
 use Rattle.ledger_model.specs.Views.{Plain, Versioned, values_of}
 use Rattle.ledger_model.specs.Execution as ledger
 use Rattle.ledger_model.specs.Defined.{definition_key}
@@ -150,29 +148,26 @@ module _ {X : Type 0} (book : Book) (valid : AreValid book) (m : Plain) (p : Pro
   pub bad_membership_told : Answers wanted result → IsToldWhere refusal.BadMembership (IsNotNext book m p) result
   bad_membership_told = told_where refusal.BadMembership ledger.BadMembership refl (λ a. a) (not_next_ends book m p)
 
--- the same of what is made of the parts that were executed on the state after a chain
-module _ (make : Parts → Payload) (book : Book) (valid : AreValid book) (chain : Chain) (p : Proposal) (executed : Result Parts SimRefusal) where
-  abbrev after : Versioned
-  after = state (history chain)
-
+-- the same of what is made of the parts that were executed on a state
+module _ (make : Parts → Payload) (book : Book) (valid : AreValid book) (m : Versioned) (p : Proposal) (executed : Result Parts SimRefusal) where
   abbrev comes_to : ledger.Outcome
-  comes_to = exec_of book p (values_of after)
+  comes_to = exec_of book p (values_of m)
 
-  module _ (h : Answers (done_or_refusal comes_to.ending (parts_of after comes_to.seen)) executed) (result : Result Payload SimRefusal)
+  module _ (h : Answers (done_or_refusal comes_to.ending (parts_of m comes_to.seen)) executed) (result : Result Payload SimRefusal)
       (is : map_ok make executed ≡ result) where
-    pub then_answers : Answers (done_or_refusal comes_to.ending (make (parts_of after comes_to.seen))) result
+    pub then_answers : Answers (done_or_refusal comes_to.ending (make (parts_of m comes_to.seen))) result
     then_answers =
-        subst (Answers (done_or_refusal comes_to.ending (make (parts_of after comes_to.seen)))) is
-        (answers_made make comes_to.ending (parts_of after comes_to.seen) executed h)
+        subst (Answers (done_or_refusal comes_to.ending (make (parts_of m comes_to.seen)))) is
+        (answers_made make comes_to.ending (parts_of m comes_to.seen) executed h)
 
-    pub then_unknown : IsToldWhere refusal.UnknownChaincode (IsUnknown book (values_of after) p) result
-    then_unknown = unknown_told book valid (values_of after) p (make (parts_of after comes_to.seen)) result then_answers
+    pub then_unknown : IsToldWhere refusal.UnknownChaincode (IsUnknown book (values_of m) p) result
+    then_unknown = unknown_told book valid (values_of m) p (make (parts_of m comes_to.seen)) result then_answers
 
-    pub then_not_installed : IsToldWhere refusal.NotInstalled (IsNotAtHand book (values_of after) p) result
-    then_not_installed = not_installed_told book valid (values_of after) p (make (parts_of after comes_to.seen)) result then_answers
+    pub then_not_installed : IsToldWhere refusal.NotInstalled (IsNotAtHand book (values_of m) p) result
+    then_not_installed = not_installed_told book valid (values_of m) p (make (parts_of m comes_to.seen)) result then_answers
 
     pub then_bad_policy : IsToldWhere refusal.BadPolicy (HasBadPolicy book p) result
-    then_bad_policy = bad_policy_told book valid (values_of after) p (make (parts_of after comes_to.seen)) result then_answers
+    then_bad_policy = bad_policy_told book valid (values_of m) p (make (parts_of m comes_to.seen)) result then_answers
 
-    pub then_bad_membership : IsToldWhere refusal.BadMembership (IsNotNext book (values_of after) p) result
-    then_bad_membership = bad_membership_told book valid (values_of after) p (make (parts_of after comes_to.seen)) result then_answers
+    pub then_bad_membership : IsToldWhere refusal.BadMembership (IsNotNext book (values_of m) p) result
+    then_bad_membership = bad_membership_told book valid (values_of m) p (make (parts_of m comes_to.seen)) result then_answers

@@ -46,12 +46,15 @@ pub record IsToldWhere {X : Type 0} (refusal : SimRefusal) (P : Type 0) (result 
   pub only : result ≡ Err refusal → P
   pub told : P → Answers (Err refusal) result
 
--- of an execution on the state after a chain: the payload has the versions of that state
-abbrev pub payload_or_refusal : Exec → Proposal → Chain → Result Payload SimRefusal
-payload_or_refusal exec p chain =
-    let m = state (history chain) in
+-- of an execution on a state: the payload has the versions of that state
+abbrev pub payload_in : Exec → Proposal → Versioned → Result Payload SimRefusal
+payload_in exec p m =
     let o = exec p (values_of m) in
     done_or_refusal o.ending (payload_of p m o.seen)
+
+-- the same on the state after a chain
+abbrev pub payload_or_refusal : Exec → Proposal → Chain → Result Payload SimRefusal
+payload_or_refusal exec p chain = payload_in exec p (state (history chain))
 
 -- of an execution on a state: the parts of a payload, with the versions of that state
 abbrev pub parts_or_refusal : (Plain → Outcome) → Versioned → Result Parts SimRefusal

@@ -15,4 +15,4 @@ mod simulation;
 pub use chaincode_book::{Book, Chaincode};
 pub use laws::{parts_answer_alike, reads_alone};
 pub use refusal::SimRefusal;
-pub use simulation::{given_by, is_at_hand, rerun, simulate};
+pub use simulation::{given_by, is_at_hand, rerun, simulate, simulate_in};

@@ -18,7 +18,7 @@ ghost use Rattle.host_api.specs.Plain.{plain_of};
 ghost use Rattle.host_api.specs.Parts.{parts_of};
 ghost use Rattle.host_api.specs.Executing.{outcome};
 ghost use Rattle.simulator.specs.Execution.{HasBadPolicy, IsNotAtHand, IsNotNext, IsUnknown, exec_of, given_by, is_at_hand};
-ghost use Rattle.simulator.specs.Answers.{Answers, IsToldWhere, done_or_refusal, parts_or_refusal, payload_or_refusal, rerun_or_refusal, told_in};
+ghost use Rattle.simulator.specs.Answers.{Answers, IsToldWhere, done_or_refusal, parts_or_refusal, payload_in, payload_or_refusal, rerun_or_refusal, told_in};
 ghost use Rattle.simulator.specs.Success.{success_of};
 ghost use Rattle.simulator.specs.declared.refusal.SimRefusal.TheVariants.{UnknownChaincode, NotInstalled, BadPolicy, BadMembership};
 
@@ -34,7 +34,7 @@ use host_api::{Given, Parts, PlainMap, Recorder, View, look_up};
 use interp::{Outcome, run};
 use std::alloc::{AllocError, Global};
 use wire::{encode_definition, encode_membership};
-use world_state::Snapshot;
+use world_state::{Snapshot, StateMap};
 
 /// The payload of a proposal on a snapshot's state. A call is executed once, on a fresh instance
 /// and by the definition of its chaincode: its payload has the read of the definition's key in
@@ -63,8 +63,28 @@ pub fn simulate(
     ensures bad_membership { IsToldWhere BadMembership
         (IsNotNext book.now (values_of (state (history snapshot.now))) proposal.now) result }
 {
+    simulate_in(alloc, book, snapshot.map(), proposal)
+}
+
+/// The payload of a proposal on a state, as `simulate` answers it on a snapshot's.
+pub fn simulate_in(
+    alloc: Global,
+    book: &Book,
+    state: &StateMap,
+    proposal: &Proposal,
+) -> Result<Payload, SimRefusal>
+    ensures answer { Answers
+        (payload_in (exec_of book.now) proposal.now (as_state state.now.entries)) result }
+    ensures unknown { IsToldWhere UnknownChaincode
+        (IsUnknown book.now (values_of (as_state state.now.entries)) proposal.now) result }
+    ensures not_installed { IsToldWhere NotInstalled
+        (IsNotAtHand book.now (values_of (as_state state.now.entries)) proposal.now) result }
+    ensures bad_policy { IsToldWhere BadPolicy (HasBadPolicy book.now proposal.now) result }
+    ensures bad_membership { IsToldWhere BadMembership
+        (IsNotNext book.now (values_of (as_state state.now.entries)) proposal.now) result }
+{
     let _valid = book.chaincodes();
-    let parts = execute(alloc, book, snapshot, proposal)?;
+    let parts = execute(alloc, book, state, proposal)?;
     let whole = PayloadParts {
         proposal: proposal.clone()?,
         result: parts.result,
