@@ -6,19 +6,21 @@ ghost use Rattle.ledger_model.specs.Chain.{history};
 ghost use Rattle.ledger_model.specs.State.{state};
 ghost use Rattle.simulator.specs.Answers.{Answers};
 ghost use Rattle.endorsement_policy.specs.Endorsed.{seal_of};
-ghost use Rattle.endorsement_policy.specs.Judge.{plain_after};
-ghost use Rattle.endorser.specs.Endorsing.{endorsing_of, simulated_on, endorsed_on, IsEndorsed};
+ghost use Rattle.endorsement_policy.specs.Judge.{plain_in};
+ghost use Rattle.world_state.specs.Kept.{state_in};
+ghost use Rattle.world_state.specs.Writing.{as_state};
+ghost use Rattle.endorser.specs.Endorsing.{endorsing_of, simulated_in, simulated_on, endorsed_in, endorsed_on, IsEndorsed, IsEndorsedIn};
 ghost use Rattle.endorser.specs.Rechecks.{IsRecheckRefused};
 
-use crate::rechecking::recheck;
-use crate::sealing::seal;
+use crate::rechecking::recheck_behind;
+use crate::sealing::seal_in;
 use endorsement_policy::Rules;
 use fab_types::{Endorsement, OrgName, Payload, Proposal};
 use org_keys::Signers;
-use simulator::{Book, SimRefusal, simulate};
+use simulator::{Book, SimRefusal, simulate_in};
 use std::alloc::{AllocError, Global};
 use std::sync::Arc;
-use world_state::Snapshot;
+use world_state::{Past, Snapshot, StateMap};
 
 /// What an organisation endorses by: the chaincodes, the rules, the seeds at hand and its name.
 /// Contracts see them as one (`endorsing_of`); they stay as they are.
@@ -68,7 +70,16 @@ impl Endorser {
     pub fn simulate(&self, snapshot: &Snapshot, proposal: &Proposal) -> Result<Payload, SimRefusal>
         ensures { Answers (simulated_on (endorsing_of self.now) proposal.now snapshot.now) result }
     {
-        simulate(self.alloc, &self.book, snapshot, proposal)
+        self.simulate_in(snapshot.map(), proposal)
+    }
+
+    /// The payload of a proposal on a state, as `simulate` answers it on a snapshot's.
+    pub fn simulate_in(&self, state: &StateMap, proposal: &Proposal) -> Result<Payload, SimRefusal>
+        ensures { Answers
+            (simulated_in (endorsing_of self.now) proposal.now (as_state state.now.entries))
+            result }
+    {
+        simulate_in(self.alloc, &self.book, state, proposal)
     }
 
     /// Endorses a payload of which all that was read is as it is in the newest snapshot's state.
@@ -84,8 +95,24 @@ impl Endorser {
         ensures refused { IfErr result
             (λ r. IsRecheckRefused (state (history newest.now)) payload.now r) }
     {
-        recheck(self.alloc, payload, newest)?;
-        Ok(self.seal(newest, payload)?)
+        self.endorse_payload_behind(newest, payload)
+    }
+
+    /// Endorses a payload of which all that was read is as it is behind a chain, as
+    /// `endorse_payload` does in a snapshot's state.
+    pub fn endorse_payload_behind<P: Past>(
+        &self,
+        newest: &P,
+        payload: &Payload,
+    ) -> Result<Endorsement, SimRefusal>
+        ensures endorsed { IfOk result
+            (λ tag. IsEndorsedIn (endorsing_of self.now) (state_in (P.kept newest.now)) payload.now
+            tag) }
+        ensures refused { IfErr result
+            (λ r. IsRecheckRefused (state_in (P.kept newest.now)) payload.now r) }
+    {
+        recheck_behind(self.alloc, payload, newest)?;
+        Ok(self.seal(newest.map(), payload)?)
     }
 
     /// Simulates a proposal on a snapshot's state and endorses the payload there, where nothing is
@@ -99,22 +126,36 @@ impl Endorser {
     ) -> Result<(Payload, Endorsement), SimRefusal>
         ensures { Answers (endorsed_on (endorsing_of self.now) proposal.now snapshot.now) result }
     {
-        let payload = simulate(self.alloc, &self.book, snapshot, proposal)?;
-        let endorsement = self.seal(snapshot, &payload)?;
+        self.endorse_in(snapshot.map(), proposal)
+    }
+
+    /// Simulates a proposal on a state and endorses the payload there, as `endorse` does on a
+    /// snapshot's.
+    pub fn endorse_in(
+        &self,
+        state: &StateMap,
+        proposal: &Proposal,
+    ) -> Result<(Payload, Endorsement), SimRefusal>
+        ensures { Answers
+            (endorsed_in (endorsing_of self.now) proposal.now (as_state state.now.entries))
+            result }
+    {
+        let payload = self.simulate_in(state, proposal)?;
+        let endorsement = self.seal(state, &payload)?;
         Ok((payload, endorsement))
     }
 
-    /// What is put on a payload in a snapshot's state.
-    fn seal(&self, snapshot: &Snapshot, payload: &Payload) -> Result<Endorsement, AllocError>
+    /// What is put on a payload in a state.
+    fn seal(&self, state: &StateMap, payload: &Payload) -> Result<Endorsement, AllocError>
         ensures { IfOk result
             (λ e. e
-            ≡ (endorsing_of self.now).seal (plain_after snapshot.now) payload.now) }
+            ≡ (endorsing_of self.now).seal (plain_in state.now.entries) payload.now) }
     {
-        seal(
+        seal_in(
             self.alloc,
             &self.rules,
             &self.signers,
-            snapshot,
+            state,
             &self.org,
             payload,
         )

@@ -7,5 +7,5 @@ mod rechecking;
 mod sealing;
 
 pub use endorsing::Endorser;
-pub use rechecking::recheck;
-pub use sealing::seal;
+pub use rechecking::{recheck, recheck_behind};
+pub use sealing::{seal, seal_in};

@@ -2,13 +2,13 @@
 
 ghost use Rattle.std.specs.Prelude.{◌≡◌, IfOk, option_map};
 ghost use Rattle.endorsement_policy.specs.Endorsed.{key_of, seal_of};
-ghost use Rattle.endorsement_policy.specs.Judge.{plain_after};
+ghost use Rattle.endorsement_policy.specs.Judge.{plain_after, plain_in};
 
 use endorsement_policy::{Rules, Standing};
 use fab_types::{Endorsement, OrgName, Payload};
 use org_keys::{OrgKey, Signers};
 use std::alloc::{AllocError, Global};
-use world_state::Snapshot;
+use world_state::{Snapshot, StateMap};
 
 /// An organisation's endorsement of a payload: the tag that the seeds at hand make of its bytes for
 /// the key that the organisation has in this snapshot's state, by the membership there, else by the
@@ -26,7 +26,24 @@ pub fn seal(
         (λ e. e
         ≡ seal_of rules.now signers.now (plain_after snapshot.now) org.now payload.now) }
 {
-    let standing = Standing::of(alloc, rules, snapshot)?;
+    seal_in(alloc, rules, signers, snapshot.map(), org, payload)
+}
+
+/// An organisation's endorsement of a payload in a state, as `seal` says of a snapshot's. The error
+/// is of memory.
+pub fn seal_in(
+    alloc: Global,
+    rules: &Rules,
+    signers: &Signers,
+    state: &StateMap,
+    org: &OrgName,
+    payload: &Payload,
+) -> Result<Endorsement, AllocError>
+    ensures { IfOk result
+        (λ e. e
+        ≡ seal_of rules.now signers.now (plain_in state.now.entries) org.now payload.now) }
+{
+    let standing = Standing::in_state(alloc, rules, state)?;
     let key = key_of(&standing, org);
     Ok(Endorsement {
         org: org.clone()?,

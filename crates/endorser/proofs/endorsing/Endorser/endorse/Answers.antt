@@ -1,9 +1,8 @@
-use Rattle.endorsement_policy.specs.Judge.{plain_after}
-use Rattle.endorser.specs.Endorsing.{endorsing_of}
-use Rattle.endorser.proofs.Sealed.{endorsed}
+use Rattle.std.proofs.Common.{subst}
+use Rattle.simulator.specs.Answers.{Answers}
+use Rattle.endorser.specs.Endorsing.{endorsing_of, endorsed_in}
 use Rattle.endorser.proofs.endorsing.Endorser.endorse.Goals as goal
 
 pub returns : goal.returns
 returns c =
-    let seal = (endorsing_of c.args.self.now).seal (plain_after c.args.snapshot.now) in
-    endorsed _ _ _ c.args.snapshot.now _ seal _ c.deref.ensures c.in_ok-payload.ensures.answer c.in_ok-endorsement.ensures
+    subst (λ m. Answers (endorsed_in (endorsing_of c.args.self.now) c.args.proposal.now m) c.endorse_in.result) c.map.ensures c.endorse_in.ensures
