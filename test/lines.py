@@ -6,6 +6,7 @@ input, which else is empty, and behind a store's name how many of its bytes ther
 """
 import contextlib
 import dataclasses
+import json
 import os
 import pathlib
 import re
@@ -16,14 +17,16 @@ from collections.abc import Iterator
 import shown
 from report import Ran, Report
 
-# How long a command may take, in seconds.
-SECONDS = 60
+# How long a command may take, in seconds, and one of 64 threads.
+SECONDS, LONG = 60, 600
 # A name of a store in the cases, of which so many bytes are taken.
 CUT = re.compile(r"(.+):(\d+)")
 # What refuses on the standard output, and what has to stand at the end of a sentence for it.
 REFUSAL = re.compile(r"(?:answer \S+ \d+ )?refused (\d+).*|answer \S+ \d+ (bad)|(bad line) \d+|(flags differ) \d+|(usage): .*")
 # How a sentence on the standard error ends, and how each of its lines begins.
 SENTENCE, SAID = re.compile(r"ledger: .*\((\d+|bad|bad line|flags differ|usage)\)"), "ledger: "
+# What `threads` prints where the seats' calls read what others put.
+COUNTS = re.compile(r"endorsed ([1-9]\d*)\nrefused (\d+)\nblocks [1-9]\d*\naudit agrees\n")
 
 
 @dataclasses.dataclass
@@ -38,9 +41,9 @@ class Case:
         return self.line.partition(" < ")[0].split()
 
 
-def ran(program: pathlib.Path, words: list[str], folder: pathlib.Path, given: bytes = b"") -> Ran:
+def ran(program: pathlib.Path, words: list[str], folder: pathlib.Path, given: bytes = b"", seconds: int = SECONDS) -> Ran:
     """What the program prints on words in a folder."""
-    done = subprocess.run([program, *words], cwd=folder, input=given, capture_output=True, timeout=SECONDS)
+    done = subprocess.run([program, *words], cwd=folder, input=given, capture_output=True, timeout=seconds)
     return Ran(done.returncode, done.stdout.decode(errors="replace"), done.stderr.decode(errors="replace"))
 
 
@@ -142,6 +145,17 @@ def try_pipe(report: Report, program: pathlib.Path, data: pathlib.Path) -> None:
     report.case("run with a pipe for a store", is_so, f"{now}\n{read!r}")
 
 
+def try_threads(report: Report, program: pathlib.Path, data: pathlib.Path) -> None:
+    """Seats whose calls all read and put one key. No rule says how many are refused: each is endorsed or refused, and the audit agrees."""
+    setting, contended = json.loads((data / "get.json").read_text(encoding="utf-8")), data / "contended.json"
+    for seats, rounds in ((4, 50), (64, 20)):
+        contended.write_text(json.dumps({**setting, "seats": seats}), encoding="utf-8")
+        now = ran(program, ["threads", contended.name, "kv", str(rounds)], data, seconds=LONG)
+        told = COUNTS.fullmatch(now.out)
+        is_so = now.status == 0 and told is not None and int(told[1]) + int(told[2]) == seats * rounds
+        report.case(f"threads: {seats} seats that contend for {rounds} rounds", is_so, str(now))
+
+
 def try_lines(report: Report, tree: pathlib.Path, room: pathlib.Path, program: pathlib.Path) -> None:
     cases = list(cases_of((tree / "test/cases/lines").read_text(encoding="utf-8")))
     for built in (program, program.with_name(f"{program.name}.by-rattle")):
@@ -155,3 +169,4 @@ def try_lines(report: Report, tree: pathlib.Path, room: pathlib.Path, program: p
                 try_sentences(report, case, now)
                 try_shown(report, case, now, data)
         try_pipe(report, built, data)
+        try_threads(report, built, data)

@@ -2,7 +2,6 @@
 //! batches it cuts. More that is cut is a line of `test/cases`, `run sizes.json`.
 
 use batch_cutter::{Cause, Cut, Cutter, Weigh};
-use std::test::Fail;
 
 #[derive(Drop)]
 struct Parcel(usize);
@@ -79,11 +78,16 @@ fn are_next(cutter: &mut Cutter<Parcel>, second: &[&[usize]], left: &[usize]) ->
         && cutter.timeout().is_none()
 }
 
+/// Whether the messages are cut so, first behind none, and then behind one of 10 bytes.
+fn are_cut(cutter: &mut Cutter<Parcel>) -> bool {
+    are_first(cutter)
+        && are_next(cutter, &[], &[60, 40])
+        && cuts(cutter, 10, &[])
+        && are_next(cutter, &[&[10, 60]], &[40])
+}
+
 #[test]
-fn messages_are_cut_by_their_sizes(rt: HostRuntime) -> Result<(), Fail> {
-    let mut cutter = Cutter::new(rt.alloc(), 3, 100, 1000);
-    let mut other = Cutter::new(rt.alloc(), 3, 100, 1000);
-    let are_cut = are_first(&mut cutter) && are_next(&mut cutter, &[], &[60, 40]);
-    assert!(rt; are_cut && cuts(&mut other, 10, &[]) && are_next(&mut other, &[&[10, 60]], &[40]));
-    Ok(())
+fn messages_are_cut_by_their_sizes(rt: HostRuntime) {
+    let are_cut = are_cut(&mut Cutter::new(rt.alloc(), 3, 100, 1000));
+    assert!(rt; are_cut);
 }

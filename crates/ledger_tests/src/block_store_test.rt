@@ -1,4 +1,4 @@
-//! Stores of blocks of one transaction each, whole, cut, damaged, and on devices that fail.
+//! Stores of blocks of one transaction each, whole, in pieces, damaged, and on devices that fail.
 
 ghost use Rattle.std.specs.Prelude.{◌≤◌};
 
@@ -126,20 +126,6 @@ fn answer_in_pieces(
     let mut tape = Counted::new(Tape::new(bytes.to_vec(alloc)?, most, calls));
     let loaded = load(alloc, &mut tape)?;
     Ok((loaded.blocks.len(), loaded.end))
-}
-
-/// Whether a store that is cut behind its second record is torn, and clean right behind it.
-fn cuts_are_told(alloc: Global, bytes: &[u8]) -> Result<bool, AllocError> {
-    let mut is_told = answer(alloc, bytes)? == (3, End::Clean);
-    for cut in 2 * RECORD..bytes.len() {
-        let end = if cut == 2 * RECORD {
-            End::Clean
-        } else {
-            End::Torn
-        };
-        is_told &= answer(alloc, &bytes[..cut])? == (2, end);
-    }
-    Ok(is_told)
 }
 
 /// Appends records. Whether that was done.
@@ -274,11 +260,9 @@ fn each_flip_is_found(alloc: Global, bytes: &mut [u8]) -> Result<bool, AllocErro
 
 /// Whether a store of three records is read as far as it is whole, in whatever pieces it comes.
 fn is_read(alloc: Global, bytes: &mut [u8]) -> Result<bool, AllocError> {
-    let are_told = cuts_are_told(alloc, bytes)?;
     let are_read = are_read_up_to_the_failure(alloc, bytes)?;
     let are_found = each_flip_is_found(alloc, bytes)?;
-    let are_whole = is_whole_in_any_two(alloc, bytes) && is_whole_by_byte(alloc, bytes);
-    Ok(are_told && are_read && are_found && are_whole)
+    Ok(are_read && are_found && is_whole_in_any_two(alloc, bytes) && is_whole_by_byte(alloc, bytes))
 }
 
 #[test]

@@ -25,17 +25,20 @@ fn is_valid_alone(snapshot: &Snapshot) -> bool {
     snapshot.height() == 1 && flags == Some([Flag::Valid].as_slice())
 }
 
-/// The steps by which a seat endorses a call, and by which one with an endorsement comes to the
-/// peer's chain.
-fn events(alloc: Global, call: &Envelope) -> Result<Vec<Event>, AllocError> {
-    let begin = Event::Begin {
-        peer: 0,
-        seat: 0,
-        proposal: call.payload.proposal().clone()?,
-    };
-    let finish = Event::Finish { peer: 0, seat: 0 };
-    let (submit, commit) = (Event::Submit(call.clone()?), Event::Commit { peer: 0 });
-    Ok(vec![in alloc; begin, finish, submit, Event::Take, commit]?)
+/// The event at a place of the steps by which a seat endorses a call, and by which one with an
+/// endorsement comes to the peer's chain.
+fn event_at(place: usize, call: &Envelope) -> Result<Event, AllocError> {
+    Ok(match place {
+        0 => Event::Begin {
+            peer: 0,
+            seat: 0,
+            proposal: call.payload.proposal().clone()?,
+        },
+        1 => Event::Finish { peer: 0, seat: 0 },
+        2 => Event::Submit(call.clone()?),
+        3 => Event::Take,
+        _ => Event::Commit { peer: 0 },
+    })
 }
 
 /// Whether this is replied to the event at a place of those.
@@ -51,36 +54,35 @@ fn is_reply(place: usize, reply: &Reply) -> bool {
 }
 
 /// Whether a system replies so to the event at a place.
-fn is_replied_once(system: &mut System, place: usize, event: &Event) -> Result<bool, AllocError> {
-    let copy = event.clone()?;
-    match system.step(copy) {
+fn is_replied_once(system: &mut System, place: usize, call: &Envelope) -> Result<bool, AllocError> {
+    let event = event_at(place, call)?;
+    match system.step(event) {
         Ok(reply) => Ok(is_reply(place, &reply)),
         Err(refused) => Err(refused),
     }
 }
 
 /// Whether a system replies so, again where it was refused memory.
-fn is_replied(system: &mut System, place: usize, event: &Event) -> bool {
-    match is_replied_once(system, place, event) {
+fn is_replied(system: &mut System, place: usize, call: &Envelope) -> bool {
+    match is_replied_once(system, place, call) {
         Ok(is_replied) => is_replied,
-        Err(_) => is_replied_once(system, place, event) == Ok(true),
+        Err(_) => is_replied_once(system, place, call) == Ok(true),
     }
 }
 
-/// Whether each event is replied to, and the peer has the block.
-fn are_replied(system: &mut System, events: &[Event]) -> bool {
+/// Whether each of the five events is replied to, and the peer has the block.
+fn are_replied(system: &mut System, call: &Envelope) -> bool {
     let mut are_replied = true;
-    for (place, event) in events.iter().enumerate() {
-        are_replied = is_replied(system, place, event) && are_replied;
+    for place in 0..5 {
+        are_replied = is_replied(system, place, call) && are_replied;
     }
     are_replied && system.snapshot(0).is_some_and(is_valid_alone)
 }
 
 /// Whether the steps are taken by a system with a setup's genesis.
 fn are_taken(alloc: Global, setup: &Setup) -> Result<bool, AllocError> {
-    let events = events(alloc, &setup.call)?;
     let mut system = System::new(alloc, &setup.genesis)?;
-    Ok(are_replied(&mut system, &events))
+    Ok(are_replied(&mut system, &setup.call))
 }
 
 #[test]

@@ -34,12 +34,8 @@ mod reopen_test;
 #[cfg(test)]
 mod samples;
 #[cfg(test)]
-mod seat_threads_test;
-#[cfg(test)]
 mod seq_test;
 #[cfg(test)]
 mod snapshot_cell_test;
-#[cfg(test)]
-mod wire_test;
 #[cfg(test)]
 mod world_state_test;

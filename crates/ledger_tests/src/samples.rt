@@ -9,23 +9,6 @@ use std::alloc::Global;
 use std::test::Fail;
 use wire::decode_envelope;
 
-/// The bytes of a transaction that has something of each kind: it calls `kv` with `x` and answers
-/// `r`; `a` was absent, `b` had the version of block 1 and place 2, and a range below `c` from `a`
-/// on, of two at most, had `b`; it puts `1` at `c` and deletes `d`. `O1` endorsed it.
-pub const ENVELOPE: [u8; 106] =
-    *b"\x02\x6b\x76\x00\x01\x78\x02\x02\x02\x02\x02\x02\x02\x02\x02\x02\x02\x02\x02\x02\x02\x02\x00\x01\x72\x00\x02\x01\x61\x00\x01\x62\x01\x00\x00\x00\x01\x00\x00\x00\x02\x00\x01\x01\x61\x01\x63\x02\x01\x01\x62\x00\x00\x00\x01\x00\x00\x00\x03\x00\x02\x01\x63\x01\x00\x01\x31\x01\x64\x00\x01\x02\x4f\x31\x05\x05\x05\x05\x05\x05\x05\x05\x05\x05\x05\x05\x05\x05\x05\x05\x05\x05\x05\x05\x05\x05\x05\x05\x05\x05\x05\x05\x05\x05\x05\x05";
-
-/// How many of them are the proposal's.
-pub const PROPOSAL: usize = 22;
-
-/// The transaction of these bytes.
-pub fn decoded(alloc: Global, bytes: &[u8]) -> Result<Envelope, Fail> {
-    match decode_envelope(alloc, bytes) {
-        Ok(envelope) => Ok(envelope),
-        Err(_) => Err("a transaction".into()),
-    }
-}
-
 /// One peer and organisation A, which has to endorse the transactions of `kv`. That reads `a`, and
 /// then puts the value `1` there: the module of examples/get_put_a.wat.
 pub const GET_PUT_A: &str =
@@ -74,23 +57,23 @@ pub fn genesis(alloc: Global, text: &str) -> Result<Genesis, Fail> {
 }
 
 /// A transaction of `kv` that reads its definition alone and puts `1` at a key, with A's tag. The
-/// nonce tells it from others.
-pub fn transaction(alloc: Global, nonce: u8, key: u8) -> Result<Envelope, Fail> {
+/// nonce tells it from others. None for want of memory.
+pub fn transaction(alloc: Global, nonce: u8, key: u8) -> Option<Envelope> {
     let mut bytes = PUT;
     bytes[NONCE] = nonce;
     bytes[KEY] = key;
     let tag = tag(b"Jefe", &bytes[..PAYLOAD]);
     bytes[TAG..].copy_from_slice(&tag);
-    decoded(alloc, &bytes)
+    decode_envelope(alloc, &bytes).ok()
 }
 
 /// A transaction of `kv` that reads its definition alone and deletes a key, with a tag that is not
-/// A's.
-pub fn deletion(alloc: Global, nonce: u8, key: u8) -> Result<Envelope, Fail> {
+/// A's. None for want of memory.
+pub fn deletion(alloc: Global, nonce: u8, key: u8) -> Option<Envelope> {
     let mut bytes = DELETION;
     bytes[NONCE] = nonce;
     bytes[KEY] = key;
-    decoded(alloc, &bytes)
+    decode_envelope(alloc, &bytes).ok()
 }
 
 /// What tests of peers begin with.
@@ -105,30 +88,44 @@ pub struct Setup {
 /// A setup with what a text spells and a chain of so many blocks: block 4 puts `a`, those of other
 /// even numbers `b`, and the rest `k`.
 pub fn opening(alloc: Global, text: &str, count: u8) -> Result<Setup, Fail> {
-    let call = transaction(alloc, 50, b'k')?;
-    let mut chain = Orderer::new(alloc, 1, 1000, 1000, false);
-    order(alloc, &mut chain, count)?;
+    let Some(call) = transaction(alloc, 50, b'k') else {
+        return Err("a transaction".into());
+    };
     let genesis = genesis(alloc, text)?;
-    Ok(Setup {
+    let mut chain = Orderer::new(alloc, 1, 1000, 1000, false);
+    let is_ordered = is_ordered(alloc, &mut chain, count);
+    let setup = Setup {
         genesis,
         chain,
         call,
-    })
+    };
+    if is_ordered {
+        Ok(setup)
+    } else {
+        Err("a chain".into())
+    }
 }
 
-/// Orders the transactions of such a chain.
-fn order(alloc: Global, orderer: &mut Orderer, count: u8) -> Result<(), Fail> {
+/// Orders the transactions of such a chain. Whether all were taken.
+fn is_ordered(alloc: Global, orderer: &mut Orderer, count: u8) -> bool {
+    let mut is_ordered = true;
     for step in 0..count {
         let key = match step {
             3 => b'a',
             _ if step % 2 == 1 => b'b',
             _ => b'k',
         };
-        if refusal_of(orderer, transaction(alloc, step, key)?) != 0 {
-            return Err("a block".into());
-        }
+        is_ordered &= is_taken(orderer, transaction(alloc, step, key));
     }
-    Ok(())
+    is_ordered
+}
+
+/// Whether there is a transaction, and an orderer takes it.
+pub fn is_taken(orderer: &mut Orderer, transaction: Option<Envelope>) -> bool {
+    match transaction {
+        Some(envelope) => refusal_of(orderer, envelope) == 0,
+        None => false,
+    }
 }
 
 /// The number of the refusal of a transaction that an orderer is given, or 0.

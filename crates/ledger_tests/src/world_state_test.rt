@@ -1,11 +1,10 @@
 //! An older snapshot, behind which a hundred blocks are put, and an id that comes twice.
 
-use crate::samples::{deletion, refusal_of, transaction};
+use crate::samples::{deletion, is_taken, transaction};
 use committer::{Replay, commit_on};
 use fab_types::{Block, Bound, Edition, Envelope, Flag, Key, Value, Version};
 use orderer::Orderer;
 use std::alloc::{AllocError, Global};
-use std::test::Fail;
 use wire::tx_id;
 use world_state::Snapshot;
 
@@ -18,7 +17,7 @@ const ALL: u8 = 105;
 /// The transaction of a block: it puts the key of one byte that is the block's number and one more,
 /// or 1 for block 80. From block 81 on the keys come again from 2 on, and those of even blocks are
 /// deleted.
-fn nth(alloc: Global, number: u8) -> Result<Envelope, Fail> {
+fn nth(alloc: Global, number: u8) -> Option<Envelope> {
     let key = number % 80 + 1;
     if number > 80 && number % 2 == 0 {
         deletion(alloc, number, key)
@@ -27,13 +26,13 @@ fn nth(alloc: Global, number: u8) -> Result<Envelope, Fail> {
     }
 }
 
-fn order(alloc: Global, orderer: &mut Orderer) -> Result<(), Fail> {
+/// Orders the transactions of the blocks. Whether all were taken.
+fn are_ordered(alloc: Global, orderer: &mut Orderer) -> bool {
+    let mut are_ordered = true;
     for number in 1..=ALL {
-        if refusal_of(orderer, nth(alloc, number)?) != 0 {
-            return Err("a block".into());
-        }
+        are_ordered &= is_taken(orderer, nth(alloc, number));
     }
-    Ok(())
+    are_ordered
 }
 
 /// Whether a copy of a block of one transaction, which is endorsed, joins a chain with this flag.
@@ -158,24 +157,18 @@ fn is_kept(alloc: Global, old: &mut Replay, blocks: &[Block]) -> Result<bool, Al
     Ok(are_first && before && are_behind && after)
 }
 
-#[test]
-fn an_older_snapshot_stays_as_it_is(rt: HostRuntime) -> Result<(), Fail> {
-    let alloc = rt.alloc();
-    let mut orderer = Orderer::new(alloc, 1, 1000, 1000, false);
-    order(alloc, &mut orderer)?;
+/// Whether an older snapshot stays as it is where an orderer's blocks are put behind it.
+fn is_kept_behind(alloc: Global, orderer: &mut Orderer) -> bool {
+    let are_ordered = are_ordered(alloc, orderer);
     let mut old = Replay::new(Snapshot::empty(alloc));
-    let is_kept = is_kept(alloc, &mut old, orderer.blocks());
-    assert!(rt; is_kept == Ok(true));
-    Ok(())
+    are_ordered && is_kept(alloc, &mut old, orderer.blocks()) == Ok(true)
 }
 
-fn order_twice(alloc: Global, orderer: &mut Orderer) -> Result<(), Fail> {
-    for _ in 0..2 {
-        if refusal_of(orderer, transaction(alloc, 1, 1)?) != 0 {
-            return Err("a block".into());
-        }
-    }
-    Ok(())
+#[test]
+fn an_older_snapshot_stays_as_it_is(rt: HostRuntime) {
+    let alloc = rt.alloc();
+    let is_kept = is_kept_behind(alloc, &mut Orderer::new(alloc, 1, 1000, 1000, false));
+    assert!(rt; is_kept);
 }
 
 /// Whether two blocks of one transaction, the same one, join a chain, and its id then has block 1.
@@ -183,24 +176,30 @@ fn has_first_block(
     alloc: Global,
     chain: &mut Replay,
     blocks: &[Block],
-    id: &[u8; 32],
 ) -> Result<bool, AllocError> {
     let [first, second] = blocks else {
         return Ok(false);
     };
+    let [envelope] = first.envelopes.as_slice() else {
+        return Ok(false);
+    };
+    let id = tx_id(alloc, envelope.payload.proposal())?;
     let is_first = is_pushed(alloc, chain, first, Flag::Valid)?;
     let is_second = is_pushed(alloc, chain, second, Flag::DuplicateTxid)?;
-    Ok(is_first && is_second && chain.snapshot().block_of(id) == Some(1))
+    Ok(is_first && is_second && chain.snapshot().block_of(&id) == Some(1))
+}
+
+/// Whether the id of a transaction that an orderer is given twice has its first block.
+fn is_first_of_two(alloc: Global, orderer: &mut Orderer) -> bool {
+    let is_first = is_taken(orderer, transaction(alloc, 1, 1));
+    let is_second = is_taken(orderer, transaction(alloc, 1, 1));
+    let mut chain = Replay::new(Snapshot::empty(alloc));
+    is_first && is_second && has_first_block(alloc, &mut chain, orderer.blocks()) == Ok(true)
 }
 
 #[test]
-fn an_id_that_comes_twice_has_its_first_block(rt: HostRuntime) -> Result<(), Fail> {
+fn an_id_that_comes_twice_has_its_first_block(rt: HostRuntime) {
     let alloc = rt.alloc();
-    let id = tx_id(alloc, transaction(alloc, 1, 1)?.payload.proposal())?;
-    let mut orderer = Orderer::new(alloc, 1, 1000, 1000, false);
-    order_twice(alloc, &mut orderer)?;
-    let mut chain = Replay::new(Snapshot::empty(alloc));
-    let has = has_first_block(alloc, &mut chain, orderer.blocks(), &id);
-    assert!(rt; has == Ok(true));
-    Ok(())
+    let is_first = is_first_of_two(alloc, &mut Orderer::new(alloc, 1, 1000, 1000, false));
+    assert!(rt; is_first);
 }
