@@ -1,15 +1,15 @@
 //! Why bytes give no valid module, in one sentence for those who wrote the module.
 //!
 //! The sentence says where the fault is and what stands there. It is made by functions that look at
-//! the bytes once more, beside the exact readers, whose answer they take as given.
+//! the bytes once more, beside the exact readers, whose answer they take as given: in bytes that
+//! spell no module they go to the offset of the fault, and a module that is not valid they type up
+//! to the first fault.
 #![tactic(auto)]
 
-mod bodies;
-mod generic;
 mod items;
 mod lookup;
+mod malformed;
 mod naming;
-mod opcodes;
 mod operands;
 mod operators;
 mod place;
@@ -17,11 +17,7 @@ mod reader;
 mod reason;
 mod rules;
 mod section;
-mod sections;
-mod shapes;
 mod source;
-mod steps;
-mod stop;
 mod types;
 mod typing;
 

@@ -1,9 +1,7 @@
 //! What a module has at an index, and the fault where it has nothing.
 
-use crate::source::Source;
-use crate::stop::{Stop, invalid};
+use crate::source::{Source, Stop};
 use wasm_ast::{FuncType, ImportKind, Module};
-use wasm_typing::ValidateFault;
 
 /// The fault of an index that names nothing, where there are so many.
 pub(crate) fn no_such<T>(
@@ -13,18 +11,23 @@ pub(crate) fn no_such<T>(
     count: usize,
 ) -> Result<T, Stop> {
     if count == 0 {
-        let words = format_args!("it names {noun} {index}, and there is none");
-        return invalid(source, ValidateFault::Index, words);
+        return source.stop(format_args!("it names {noun} {index}, and there is none"));
     }
     let last = count.saturating_sub(1);
-    let words = format_args!("it names {noun} {index}, and the last one is {last}");
-    invalid(source, ValidateFault::Index, words)
+    source.stop(format_args!("it names {noun} {index}, and the last one is {last}"))
 }
 
-/// The fault of an instruction that needs a table or a memory, where the module has none.
-pub(crate) fn no_part<T>(source: Source<'_>, noun: &str) -> Result<T, Stop> {
-    let words = format_args!("it needs a {noun}, and the module has none");
-    invalid(source, ValidateFault::Index, words)
+/// The type at an index.
+pub(crate) fn type_at<'m>(
+    source: Source<'_>,
+    module: &'m Module,
+    index: u32,
+) -> Result<&'m FuncType, Stop> {
+    let types = module.types.as_slice();
+    match types.get(index as usize) {
+        Some(found) => Ok(found),
+        None => no_such(source, "type", index, types.len()),
+    }
 }
 
 /// How many functions a module has, the imported ones first. Its imports are functions.
@@ -32,10 +35,16 @@ pub(crate) fn function_count(module: &Module) -> usize {
     module.imports.len().saturating_add(module.functions.len())
 }
 
-/// The type of a function. None where there is no such function, or it has none of the types.
-pub(crate) fn type_of(module: &Module, function: u32) -> Option<&FuncType> {
-    let type_index = type_index_of(module, function as usize)?;
-    module.types.as_slice().get(type_index as usize)
+/// The type of the function at an index.
+pub(crate) fn type_of<'m>(
+    source: Source<'_>,
+    module: &'m Module,
+    function: u32,
+) -> Result<&'m FuncType, Stop> {
+    match type_index_of(module, function as usize) {
+        Some(type_index) => type_at(source, module, type_index),
+        None => no_such(source, "function", function, function_count(module)),
+    }
 }
 
 // The index of the type of a function.

@@ -1,15 +1,15 @@
 //! Places in a module, in words.
 
-use crate::items::External;
 use crate::operators::operator_name;
-use crate::section::Section;
+use crate::section::{item_noun, section_name};
 use std::fmt::{self, Display, Formatter, Write};
 
 /// Where something stands in a module: in which section, in which of its items, at which of the
 /// item's instructions, at which byte. What does not apply is `None`.
 #[derive(Clone, Copy)]
 pub(crate) struct Place {
-    pub(crate) section: Option<Section>,
+    /// The id of the section.
+    pub(crate) section: Option<u8>,
     pub(crate) item: Option<usize>,
     pub(crate) spot: Option<Spot>,
     /// The offset in bytes.
@@ -26,24 +26,15 @@ impl Place {
     };
 }
 
-/// A section, or an item of one by its index, of a function that among all. An import and an export
-/// have their names where these can be read, and a function those of its export.
+/// An import or an export: its name, its kind (0 is a function) and its index, which an import has
+/// as the one of its type.
 #[derive(Clone, Copy)]
-pub(crate) struct Item<'a> {
-    pub(crate) section: Section,
-    pub(crate) index: Option<usize>,
-    pub(crate) external: Option<External<'a>>,
-}
-
-impl Display for Item<'_> {
-    fn fmt<W: Write>(&self, f: &mut Formatter<W>) -> fmt::Result {
-        let noun = self.section.item();
-        match (self.index, &self.external) {
-            (None, _) => write!(f, "{} section", self.section),
-            (Some(index), None) => write!(f, "{noun} {index}"),
-            (Some(index), Some(external)) => write!(f, "{noun} {index} ({external})"),
-        }
-    }
+pub(crate) struct External<'a> {
+    /// The name of an import's module.
+    pub(crate) module: Option<&'a str>,
+    pub(crate) name: &'a str,
+    pub(crate) kind: u8,
+    pub(crate) index: u32,
 }
 
 /// The name, behind that of its module where it is an import.
@@ -57,26 +48,40 @@ impl Display for External<'_> {
     }
 }
 
-/// A place as it is told in front of what is wrong there: nothing where no place is known.
+/// A place as it is told in front of what is wrong there. A function has its index among all and
+/// the name of its first export, an import and an export have their names.
 #[derive(Clone, Copy)]
 pub(crate) struct NamedPlace<'a> {
-    pub(crate) item: Option<Item<'a>>,
-    /// A spot in the item.
-    pub(crate) spot: Option<Spot>,
-    pub(crate) offset: Option<usize>,
+    pub(crate) place: Place,
+    pub(crate) external: Option<External<'a>>,
 }
 
 impl Display for NamedPlace<'_> {
     fn fmt<W: Write>(&self, f: &mut Formatter<W>) -> fmt::Result {
-        match (&self.item, self.spot, self.offset) {
+        let item = Item(*self);
+        match (self.place.section, self.place.spot, self.place.offset) {
             (None, _, None) => Ok(()),
             (None, _, Some(offset)) => write!(f, "at byte {offset}: "),
-            (Some(item), None, None) => write!(f, "{item}: "),
-            (Some(item), None, Some(offset)) => write!(f, "{item}, at byte {offset}: "),
-            (Some(item), Some(spot), None) => write!(f, "{item}, {spot}: "),
-            (Some(item), Some(spot), Some(offset)) => {
-                write!(f, "{item}, {spot}, at byte {offset}: ")
-            }
+            (Some(_), None, None) => write!(f, "{item}: "),
+            (Some(_), None, Some(offset)) => write!(f, "{item}, at byte {offset}: "),
+            (Some(_), Some(spot), None) => write!(f, "{item}, {spot}: "),
+            (Some(_), Some(spot), Some(offset)) => write!(f, "{item}, {spot}, at byte {offset}: "),
+        }
+    }
+}
+
+/// The section or the item of a place.
+#[derive(Clone, Copy)]
+struct Item<'a>(NamedPlace<'a>);
+
+impl Display for Item<'_> {
+    fn fmt<W: Write>(&self, f: &mut Formatter<W>) -> fmt::Result {
+        let section = self.0.place.section.unwrap_or(0);
+        let noun = item_noun(section);
+        match (self.0.place.item, &self.0.external) {
+            (None, _) => write!(f, "{} section", section_name(section).unwrap_or("")),
+            (Some(index), None) => write!(f, "{noun} {index}"),
+            (Some(index), Some(external)) => write!(f, "{noun} {index} ({external})"),
         }
     }
 }
@@ -102,13 +107,10 @@ pub(crate) struct Numbered {
 
 impl Display for Numbered {
     fn fmt<W: Write>(&self, f: &mut Formatter<W>) -> fmt::Result {
-        match operator_name(self.opcode) {
-            Some(name) => write!(f, "instruction {} ({name})", self.number),
-            None => write!(
-                f,
-                "instruction {} (opcode {:02x})",
-                self.number, self.opcode
-            ),
+        let Numbered { number, opcode } = *self;
+        match operator_name(opcode) {
+            Some(name) => write!(f, "instruction {number} ({name})"),
+            None => write!(f, "instruction {number} (opcode {opcode:02x})"),
         }
     }
 }
@@ -126,7 +128,7 @@ impl Display for Spot {
 /// A name of a module as it is shown: 64 characters at most, those that are no letter, digit or
 /// sign of ASCII by their codes.
 #[derive(Clone, Copy)]
-pub(crate) struct Shown<'a>(pub(crate) &'a str);
+struct Shown<'a>(&'a str);
 
 /// How many characters of a name are shown.
 const SHOWN: usize = 64;
@@ -137,22 +139,12 @@ impl Display for Shown<'_> {
             if place == SHOWN {
                 return f.write_str("..");
             }
-            write!(f, "{}", Character(character))?;
+            if character.is_ascii_graphic() {
+                f.write_char(character)?;
+            } else {
+                write!(f, "\\u{{{:x}}}", character as u32)?;
+            }
         }
         Ok(())
-    }
-}
-
-/// A character of a name as it is shown.
-#[derive(Clone, Copy)]
-struct Character(char);
-
-impl Display for Character {
-    fn fmt<W: Write>(&self, f: &mut Formatter<W>) -> fmt::Result {
-        if self.0.is_ascii_graphic() {
-            f.write_char(self.0)
-        } else {
-            write!(f, "\\u{{{:x}}}", self.0 as u32)
-        }
     }
 }

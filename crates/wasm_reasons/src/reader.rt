@@ -1,223 +1,217 @@
-//! A reader of a module's bytes that knows where it stands.
+//! A reader of a module's bytes that goes to where something is wrong.
 
-use crate::place::Place;
-use crate::section::Section;
-use crate::source::Source;
-use crate::stop::Stop;
-use std::fmt::{self, Display, Formatter, Write};
-use wasm_ast::{BlockType, ValueType};
-use wasm_bytes::{ByteFault, Cursor};
+use crate::place::{External, Place};
+use crate::section::CUSTOM;
+use crate::source::{Source, Stop};
+use wasm_bytes::Cursor;
 use wasm_decode::FaultKind;
-use wasm_file::ModuleRefusal;
+use wasm_decode::limits::MODULE_BYTES;
 
-/// What bytes belong to.
+/// What a part of a module has to be.
 #[derive(Clone, Copy)]
-pub(crate) enum Holder {
-    Module,
-    Section,
-    Code,
+pub(crate) enum Form {
+    Free,
+    /// A byte that stands for this.
+    Byte(&'static str),
+    /// A number that is at most so large.
+    AtMost(u32),
 }
 
-impl Display for Holder {
-    fn fmt<W: Write>(&self, f: &mut Formatter<W>) -> fmt::Result {
-        f.write_str(match self {
-            Holder::Module => "the module",
-            Holder::Section => "the section",
-            Holder::Code => "the code of the function",
-        })
-    }
+/// A part of a module, as it is told.
+#[derive(Clone, Copy)]
+pub(crate) struct Part {
+    pub(crate) name: &'static str,
+    pub(crate) form: Form,
 }
 
-/// A reader of a part of a module.
+/// A reader of a part of a module, which knows where it stands.
+///
+/// It stops behind the part that begins at an offset, and inside a part that cannot be read.
 #[derive(Drop)]
 pub(crate) struct Reader<'a> {
     pub(crate) source: Source<'a>,
     pub(crate) cursor: Cursor<'a>,
+    // Where the part begins behind which it stops.
+    until: usize,
+    // Where the last byte is that it has to look at: what has a size and ends before is passed.
+    last_byte: usize,
     /// What the bytes belong to that it reads.
-    pub(crate) holder: Holder,
-    /// Where it stands.
+    pub(crate) holder: &'static str,
     pub(crate) place: Place,
+    /// The section behind which the next one stands, custom sections left out.
+    pub(crate) last_section: u8,
+    /// The part that was begun last.
+    pub(crate) part: Part,
+    /// The number that was read last.
+    pub(crate) number: u32,
+    /// How many instructions of the expression stand before the one that is read, and how many
+    /// blocks round it.
+    pub(crate) instructions: u32,
+    pub(crate) blocks: u32,
+    /// The import or the export that was read last.
+    pub(crate) external: Option<External<'a>>,
 }
 
 impl<'a> Reader<'a> {
-    /// A reader of a module.
+    /// A reader of a module that goes on as far as it can.
     pub(crate) fn new(source: Source<'a>) -> Reader<'a> {
         Reader {
             source,
             cursor: Cursor::new(source.bytes),
-            holder: Holder::Module,
+            until: usize::MAX,
+            last_byte: usize::MAX,
+            holder: "the module",
             place: Place::NOWHERE,
-        }
-    }
-
-    /// A reader of what a section holds.
-    pub(crate) fn of_section(&self, section: Section, content: Cursor<'a>) -> Reader<'a> {
-        Reader {
-            source: self.source,
-            cursor: content,
-            holder: Holder::Section,
-            place: Place {
-                section: Some(section),
-                ..Place::NOWHERE
+            last_section: CUSTOM,
+            part: Part {
+                name: "its first eight bytes",
+                form: Form::Free,
             },
+            number: 0,
+            instructions: 0,
+            blocks: 0,
+            external: None,
         }
     }
 
-    /// Goes to an item of the section.
-    pub(crate) fn go_to(&mut self, item: usize) {
-        self.place.item = Some(item);
+    /// A reader of a module that goes to the part with a fault. Bytes that end early do so before
+    /// its offset.
+    pub(crate) fn to(source: Source<'a>, kind: FaultKind, offset: usize) -> Reader<'a> {
+        let mut reader = Reader::new(source);
+        if kind == FaultKind::EndedEarly {
+            reader.last_byte = offset.saturating_sub(1);
+        } else {
+            reader.until = offset;
+            reader.last_byte = offset;
+        }
+        reader
     }
 
-    /// The fault of bytes that spell no module, at an offset.
-    pub(crate) fn malformed<T>(
-        &self,
-        kind: FaultKind,
-        offset: usize,
-        words: impl Display + Drop,
-    ) -> Result<T, Stop> {
-        self.source
-            .stop(ModuleRefusal::Malformed(kind, offset), words)
-    }
-
-    // The fault of a part that could not be read.
-    fn unread<T>(&self, fault: ByteFault, part: &str) -> Result<T, Stop> {
-        let holder = self.holder;
-        match fault.kind {
-            wasm_bytes::FaultKind::EndedEarly => {
-                let words = format_args!("{holder} ends inside {part}");
-                self.malformed(FaultKind::EndedEarly, fault.offset, words)
+    /// Goes into the section of an id, or into one with a byte that it has to look at, and tells
+    /// its id. None at the end of the module.
+    pub(crate) fn enter(&mut self, wanted: Option<u8>) -> Result<Option<u8>, Stop> {
+        if self.cursor.split(8).is_none() || self.until < 8 {
+            return Err(Stop::Found);
+        }
+        for _ in 0..MODULE_BYTES {
+            self.place = Place::NOWHERE;
+            if self.cursor.is_at_end() {
+                break;
             }
-            wasm_bytes::FaultKind::BadNumber => {
-                let words = format_args!(
-                    "{part} is no number in LEB128: too many bytes, or wrong unused bits"
-                );
-                self.malformed(FaultKind::BadNumber, fault.offset, words)
+            let id = self.byte("the id of a section")?;
+            self.place.section = Some(id);
+            let content = self.sized("its size")?;
+            if wanted == Some(id) || self.has_to_enter() {
+                self.go_into("the section", content);
+                return Ok(Some(id));
             }
-            wasm_bytes::FaultKind::NotUtf8 => {
-                let words = format_args!("{part} is not UTF-8");
-                self.malformed(FaultKind::NotUtf8, fault.offset, words)
+            if id != CUSTOM {
+                self.last_section = id;
             }
         }
+        Ok(None)
     }
 
-    /// The next byte.
-    pub(crate) fn byte(&mut self, part: &str) -> Result<u8, Stop> {
-        match self.cursor.byte() {
-            Ok(byte) => Ok(byte),
-            Err(fault) => self.unread(fault, part),
+    /// Whether it has to look at what it passed last.
+    pub(crate) fn has_to_enter(&self) -> bool {
+        self.last_byte < self.cursor.offset()
+    }
+
+    /// Reads a part by itself from here on.
+    pub(crate) fn go_into(&mut self, holder: &'static str, content: Cursor<'a>) {
+        self.holder = holder;
+        self.cursor = content;
+    }
+
+    /// Goes to the first item of a section, and tells how many there are.
+    pub(crate) fn enter_items(&mut self, section: u8) -> Result<u32, Stop> {
+        match self.enter(Some(section))? {
+            Some(_) => self.number("the count of its items"),
+            None => Ok(0),
         }
     }
 
-    /// The unsigned number of 32 bits.
-    pub(crate) fn number(&mut self, part: &str) -> Result<u32, Stop> {
-        match self.cursor.u32_leb() {
-            Ok(number) => Ok(number),
-            Err(fault) => self.unread(fault, part),
-        }
+    /// What stands behind its size.
+    pub(crate) fn sized(&mut self, size: &'static str) -> Result<Cursor<'a>, Stop> {
+        let size = self.number(size)?;
+        self.cursor.split(size).ok_or(Stop::Found)
     }
 
-    /// The unsigned number of 32 bits, which is at most so large.
-    pub(crate) fn number_to(&mut self, most: u32, part: &str) -> Result<u32, Stop> {
-        let offset = self.cursor.offset();
-        let number = self.number(part)?;
-        if number > most {
-            let words = format_args!("{part} is {number}, where at most {most} is allowed");
-            return self.malformed(FaultKind::Limit, offset, words);
-        }
-        Ok(number)
+    /// Begins a part, and tells where.
+    pub(crate) fn begin(&mut self, name: &'static str, form: Form) -> usize {
+        self.part = Part { name, form };
+        self.cursor.offset()
     }
 
-    /// The signed number of 32 bits.
-    pub(crate) fn signed_32(&mut self, part: &str) -> Result<(), Stop> {
-        match self.cursor.i32_leb() {
-            Ok(_number) => Ok(()),
-            Err(fault) => self.unread(fault, part),
-        }
-    }
-
-    /// The signed number of 64 bits.
-    pub(crate) fn signed_64(&mut self, part: &str) -> Result<(), Stop> {
-        match self.cursor.i64_leb() {
-            Ok(_number) => Ok(()),
-            Err(fault) => self.unread(fault, part),
-        }
-    }
-
-    /// The name.
-    pub(crate) fn name(&mut self, part: &str) -> Result<&'a str, Stop> {
-        match self.cursor.name() {
-            Ok(name) => Ok(name),
-            Err(fault) => self.unread(fault, part),
-        }
-    }
-
-    // The fault of a byte that stands for no type.
-    fn no_type<T>(&self, byte: u8, offset: usize, wanted: &str) -> Result<T, Stop> {
-        let float = match byte {
-            0x7c => "f64",
-            0x7d => "f32",
-            _ => return self.misplaced(FaultKind::TypeByte, byte, offset, wanted),
-        };
-        let words = format_args!(
-            "{float} ({byte:02x}) is a type of floats, and the ledger has only integers"
-        );
-        self.malformed(FaultKind::Float, offset, words)
-    }
-
-    /// The fault of a byte in the place of what is wanted.
-    pub(crate) fn misplaced<T>(
-        &self,
-        kind: FaultKind,
-        byte: u8,
-        offset: usize,
-        wanted: &str,
-    ) -> Result<T, Stop> {
-        let words = format_args!("byte {byte:02x} stands where {wanted} is needed");
-        self.malformed(kind, offset, words)
-    }
-
-    /// A byte that is at most so large.
-    pub(crate) fn byte_to(&mut self, most: u8, part: &str, wanted: &str) -> Result<u8, Stop> {
-        let offset = self.cursor.offset();
-        let byte = self.byte(part)?;
-        if byte > most {
-            return self.misplaced(FaultKind::TypeByte, byte, offset, wanted);
-        }
-        Ok(byte)
-    }
-
-    /// A byte that is this one.
-    pub(crate) fn byte_is(&mut self, needed: u8, part: &str) -> Result<(), Stop> {
-        let offset = self.cursor.offset();
-        let byte = self.byte(part)?;
-        if byte != needed {
-            return self.misplaced(FaultKind::TypeByte, byte, offset, part);
+    /// Stops behind the part that began at an offset, if it has to.
+    pub(crate) fn end(&self, offset: usize) -> Result<(), Stop> {
+        if offset == self.until {
+            return Err(Stop::Found);
         }
         Ok(())
     }
 
-    /// A value type.
-    pub(crate) fn value_type(&mut self, part: &str) -> Result<ValueType, Stop> {
-        let offset = self.cursor.offset();
-        match self.byte(part)? {
-            0x7f => Ok(ValueType::I32),
-            0x7e => Ok(ValueType::I64),
-            byte => self.no_type(byte, offset, "a value type (i32 is 7f, i64 is 7e)"),
-        }
+    // The number of 32 bits, of this form.
+    fn number_as(&mut self, name: &'static str, form: Form) -> Result<u32, Stop> {
+        let offset = self.begin(name, form);
+        self.number = self.cursor.u32_leb()?;
+        self.end(offset)?;
+        Ok(self.number)
     }
 
-    /// What a block leaves.
-    pub(crate) fn block_type(&mut self) -> Result<BlockType, Stop> {
-        let offset = self.cursor.offset();
-        match self.byte("its block type")? {
-            0x40 => Ok(None),
-            0x7f => Ok(Some(ValueType::I32)),
-            0x7e => Ok(Some(ValueType::I64)),
-            byte => self.no_type(
-                byte,
-                offset,
-                "a block type (none is 40, i32 is 7f, i64 is 7e)",
-            ),
+    /// The number of 32 bits.
+    pub(crate) fn number(&mut self, name: &'static str) -> Result<u32, Stop> {
+        self.number_as(name, Form::Free)
+    }
+
+    /// The number of 32 bits, which is at most so large.
+    pub(crate) fn number_to(&mut self, most: u32, name: &'static str) -> Result<u32, Stop> {
+        self.number_as(name, Form::AtMost(most))
+    }
+
+    /// So many numbers.
+    pub(crate) fn numbers(&mut self, count: u32, name: &'static str) -> Result<(), Stop> {
+        for _ in 0..count {
+            let _ = self.number(name)?;
         }
+        Ok(())
+    }
+
+    /// A byte of this form.
+    pub(crate) fn byte_as(&mut self, name: &'static str, form: Form) -> Result<u8, Stop> {
+        let offset = self.begin(name, form);
+        let byte = self.cursor.byte()?;
+        self.end(offset)?;
+        Ok(byte)
+    }
+
+    /// The next byte.
+    pub(crate) fn byte(&mut self, name: &'static str) -> Result<u8, Stop> {
+        self.byte_as(name, Form::Free)
+    }
+
+    /// The byte of a value type.
+    pub(crate) fn value_type(&mut self, name: &'static str) -> Result<u8, Stop> {
+        self.byte_as(name, Form::Byte("a value type (i32 is 7f, i64 is 7e)"))
+    }
+
+    /// A constant of so many bits, which is told as 0.
+    pub(crate) fn constant(&mut self, bits: u8) -> Result<u32, Stop> {
+        let offset = self.begin("its constant", Form::Free);
+        if bits == 32 {
+            let _ = self.cursor.i32_leb()?;
+        } else {
+            let _ = self.cursor.i64_leb()?;
+        }
+        self.end(offset)?;
+        Ok(0)
+    }
+
+    /// The name.
+    pub(crate) fn name(&mut self, name: &'static str) -> Result<&'a str, Stop> {
+        let offset = self.begin(name, Form::Free);
+        let text = self.cursor.name()?;
+        self.end(offset)?;
+        Ok(text)
     }
 }

@@ -1,11 +1,9 @@
 //! The sentence of a refusal.
 
-use crate::generic::rule_of;
-use crate::place::{NamedPlace, Place};
+use crate::malformed::look_at_bytes;
+use crate::place::Place;
 use crate::rules::look_at_rules;
-use crate::sections::look_at_bytes;
-use crate::source::Source;
-use crate::stop::Stop;
+use crate::source::{Source, Stop};
 use std::alloc::{AllocError, Global};
 use std::cell::Cell;
 use wasm_decode::decode_as;
@@ -37,63 +35,36 @@ pub fn module_reason(
     let words = Cell::new(String::new(alloc));
     let source = Source {
         alloc,
-        profile,
         bytes,
         words: &words,
     };
-    let mut place = Place::NOWHERE;
-    let looked = look(source, refusal, &mut place);
     let number = number_of(refusal);
-    match found(source, refusal, place, looked)? {
-        None => {
-            let rule = rule_of(refusal);
-            format!(in alloc; "{rule} ({number})")
+    let mut place = Place::NOWHERE;
+    match look(source, profile, refusal, &mut place) {
+        Err(Stop::Memory) => Err(AllocError),
+        Err(Stop::Found) => {
+            let place = source.named(place);
+            let words = words.replace(String::new(alloc));
+            format!(in alloc; "{place}{words} ({number})")
         }
-        Some((place, words)) => format!(in alloc; "{place}{words} ({number})"),
+        // No refusal of `valid_module` comes here.
+        Ok(()) => format!(in alloc; "it is refused ({number})"),
     }
 }
 
 // Looks for what a refusal says is wrong, and leaves the place of it.
-fn look(source: Source<'_>, refusal: &ModuleRefusal, place: &mut Place) -> Result<(), Stop> {
-    match refusal {
-        ModuleRefusal::Memory => Ok(()),
-        ModuleRefusal::Malformed(_, offset) => {
-            let looked = look_at_bytes(source, place);
-            place.offset = Some(*offset);
-            looked
-        }
-        ModuleRefusal::Invalid(_) => match decode_as(source.alloc, source.bytes, source.profile) {
-            Ok(module) => look_at_rules(source, &module, place),
-            Err(_fault) => Ok(()),
-        },
-    }
-}
-
-// The place and the words of a fault, where it is that of the refusal.
-fn found<'a>(
-    source: Source<'a>,
+fn look(
+    source: Source<'_>,
+    profile: Profile,
     refusal: &ModuleRefusal,
-    place: Place,
-    looked: Result<(), Stop>,
-) -> Result<Option<(NamedPlace<'a>, String)>, AllocError> {
-    match looked {
-        Ok(()) => Ok(None),
-        Err(Stop::Memory) => Err(AllocError),
-        Err(Stop::Fault(fault)) if fault != *refusal => Ok(None),
-        Err(Stop::Fault(_fault)) => named(source, place),
-    }
-}
-
-// A place in words, and the words of the last fault.
-fn named<'a>(
-    source: Source<'a>,
-    place: Place,
-) -> Result<Option<(NamedPlace<'a>, String)>, AllocError> {
-    // A name that cannot be read is a fault too, with words of its own.
-    let words = source.words.replace(String::new(source.alloc));
-    match source.named(place) {
-        Ok(place) => Ok(Some((place, words))),
-        Err(Stop::Memory) => Err(AllocError),
-        Err(Stop::Fault(_fault)) => Ok(None),
+    place: &mut Place,
+) -> Result<(), Stop> {
+    match refusal {
+        ModuleRefusal::Memory => Err(Stop::Memory),
+        ModuleRefusal::Malformed(kind, offset) => look_at_bytes(source, *kind, *offset, place),
+        ModuleRefusal::Invalid(_) => match decode_as(source.alloc, source.bytes, profile) {
+            Ok(module) => look_at_rules(source, &module, place),
+            Err(_fault) => Err(Stop::Memory),
+        },
     }
 }

@@ -1,18 +1,16 @@
 //! The rules that a module has to keep, by section (Core 1.0, section 3.4).
 
-use crate::bodies::look_at_bodies;
-use crate::lookup::{function_count, no_such, type_of};
+use crate::lookup::{function_count, no_such, type_at, type_of};
 use crate::place::Place;
-use crate::section::Section;
-use crate::source::Source;
-use crate::stop::{Stop, invalid};
-use crate::types::{Signature, Type};
+use crate::section::{DATA, ELEMENT, EXPORT, FUNCTION, GLOBAL, IMPORT, MEMORY, TABLE};
+use crate::source::{Source, Stop};
+use crate::types::{Signature, type_name};
+use crate::typing::look_at_bodies;
 use wasm_ast::ValueType::I32;
 use wasm_ast::{
-    Body, Export, ExternalKind, FuncType, HostCall, Import, ImportKind, Instr, Limits, Module,
-    ValueType, arity,
+    Body, Export, ExternalKind, Import, ImportKind, Instr, Limits, Module, ValueType, arity,
 };
-use wasm_typing::{ValidateFault, call_named, is_type_of_call};
+use wasm_typing::{call_named, is_type_of_call};
 
 /// How many pages of 65,536 bytes a memory can have.
 const MAX_PAGES: u32 = 65_536;
@@ -21,10 +19,10 @@ const PAGE_BYTES: u64 = 65_536;
 
 /// A module that is looked at, and where.
 #[derive(Clone, Copy)]
-pub(crate) struct Look<'m> {
-    pub(crate) source: Source<'m>,
-    pub(crate) module: &'m Module,
-    pub(crate) place: Place,
+struct Look<'m> {
+    source: Source<'m>,
+    module: &'m Module,
+    place: Place,
 }
 
 /// Looks for the first rule that a module breaks, which the bytes spell, and leaves the place.
@@ -51,8 +49,8 @@ impl<'m> Look<'m> {
     fn up_to_elements(&mut self) -> Result<(), Stop> {
         self.imports()?;
         self.functions()?;
-        self.tables()?;
-        self.memories()?;
+        self.limits(TABLE, self.module.tables.as_slice(), u32::MAX)?;
+        self.limits(MEMORY, self.module.memories.as_slice(), MAX_PAGES)?;
         self.globals()?;
         self.exports()?;
         self.invoke()?;
@@ -60,160 +58,108 @@ impl<'m> Look<'m> {
     }
 
     // Goes to an item of a section.
-    fn go_to(&mut self, section: Section, index: usize) {
+    fn go_to(&mut self, section: u8, index: usize) {
         self.place.section = Some(section);
         self.place.item = Some(index);
     }
 
     fn imports(&mut self) -> Result<(), Stop> {
         for (index, import) in self.module.imports.as_slice().iter().enumerate() {
-            self.go_to(Section::Import, index);
+            self.go_to(IMPORT, index);
             self.import(import)?;
         }
         Ok(())
     }
 
     fn import(&self, import: &Import) -> Result<(), Stop> {
+        let source = self.source;
         let ImportKind::Function(type_index) = import.kind else {
-            let words = "it is no function, and only host calls are imported";
-            return invalid(self.source, ValidateFault::Import, words);
+            return source.stop("it is no function, and only host calls are imported");
         };
-        let types = self.module.types.as_slice();
-        let Some(function_type) = types.get(type_index as usize) else {
-            return no_such(self.source, "type", type_index, types.len());
-        };
+        let found = type_at(source, self.module, type_index)?;
         if import.module.as_str() != "fabric" {
-            let words = "it is no host call: these are of the module fabric";
-            return invalid(self.source, ValidateFault::Import, words);
+            return source.stop("it is no host call: these are of the module fabric");
         }
-        match call_named(import.name.as_str()) {
-            None => {
-                let words =
-                    "it is no host call: these are get_state, put_state, del_state, range_state, \
-                     get_arg and set_result";
-                invalid(self.source, ValidateFault::Import, words)
-            }
-            Some(call) => self.host_call(function_type, call),
-        }
-    }
-
-    // Whether an import has the type of a host call.
-    fn host_call(&self, function_type: &FuncType, call: HostCall) -> Result<(), Stop> {
-        if is_type_of_call(function_type, call) {
+        let Some(call) = call_named(import.name.as_str()) else {
+            return source.stop(
+                "it is no host call: these are get_state, put_state, del_state, range_state, \
+                 get_arg and set_result",
+            );
+        };
+        if is_type_of_call(found, call) {
             return Ok(());
         }
-        let count = arity(call);
-        let found = Signature(function_type);
-        let words = format_args!(
+        let (found, count) = (Signature(found), arity(call));
+        source.stop(format_args!(
             "its type is {found}, and the host call takes {count} i32 and leaves one i32"
-        );
-        invalid(self.source, ValidateFault::Import, words)
+        ))
     }
 
     fn functions(&mut self) -> Result<(), Stop> {
-        let count = self.module.types.len();
         for (index, function) in self.module.functions.as_slice().iter().enumerate() {
-            self.go_to(Section::Function, index);
-            if function.type_index as usize >= count {
-                return no_such(self.source, "type", function.type_index, count);
-            }
+            self.go_to(FUNCTION, index);
+            let _ = type_at(self.source, self.module, function.type_index)?;
         }
         Ok(())
     }
 
-    fn tables(&mut self) -> Result<(), Stop> {
-        let tables = self.module.tables.as_slice();
-        self.at_most_one(Section::Table, tables.len())?;
-        for (index, limits) in tables.iter().enumerate() {
-            self.go_to(Section::Table, index);
-            self.ordered(limits)?;
+    // The tables or the memories, of which there is at most one, up to so large.
+    fn limits(&mut self, section: u8, all: &[Limits], most: u32) -> Result<(), Stop> {
+        let (source, count) = (self.source, all.len());
+        if count > 1 {
+            self.go_to(section, 1);
+            return source.stop(format_args!(
+                "it is the second of {count}, and a module has at most one"
+            ));
         }
-        Ok(())
-    }
-
-    fn memories(&mut self) -> Result<(), Stop> {
-        let memories = self.module.memories.as_slice();
-        self.at_most_one(Section::Memory, memories.len())?;
-        for (index, limits) in memories.iter().enumerate() {
-            self.go_to(Section::Memory, index);
-            self.ordered(limits)?;
-            self.in_range(limits)?;
-        }
-        Ok(())
-    }
-
-    // Whether there is at most one table or memory.
-    fn at_most_one(&mut self, section: Section, count: usize) -> Result<(), Stop> {
-        if count <= 1 {
+        let [limits] = all else {
             return Ok(());
-        }
-        self.go_to(section, 1);
-        let words = format_args!("it is the second of {count}, and a module has at most one");
-        invalid(self.source, ValidateFault::Limits, words)
-    }
-
-    fn ordered(&self, limits: &Limits) -> Result<(), Stop> {
+        };
+        self.go_to(section, 0);
         let least = limits.least;
-        match limits.greatest {
-            Some(greatest) if least > greatest => {
-                let words = format_args!(
-                    "its least size {least} is above its greatest, {greatest}"
-                );
-                invalid(self.source, ValidateFault::Limits, words)
-            }
-            _ => Ok(()),
+        let greatest = limits.greatest.unwrap_or(least);
+        if least > greatest {
+            return source.stop(format_args!(
+                "its least size {least} is above its greatest, {greatest}"
+            ));
         }
-    }
-
-    // Whether the limits of a memory are those of one.
-    fn in_range(&self, limits: &Limits) -> Result<(), Stop> {
-        let most = limits.greatest.unwrap_or(limits.least);
-        if most <= MAX_PAGES {
-            return Ok(());
+        if greatest > most {
+            return source.stop(format_args!(
+                "its size may reach {greatest} pages, and a memory has at most {most}"
+            ));
         }
-        let words = format_args!(
-            "its size may reach {most} pages, and a memory has at most {MAX_PAGES}"
-        );
-        invalid(self.source, ValidateFault::Limits, words)
+        Ok(())
     }
 
     fn globals(&mut self) -> Result<(), Stop> {
         for (index, global) in self.module.globals.as_slice().iter().enumerate() {
-            self.go_to(Section::Global, index);
-            let _ = self.constant(
-                &global.initializer,
-                global.global_type.value_type,
-                "its value",
-            )?;
+            self.go_to(GLOBAL, index);
+            let needed = global.global_type.value_type;
+            let _ = self.constant(&global.initializer, needed, "its value")?;
         }
         Ok(())
     }
 
     // The word of an expression that is one constant of a type.
     fn constant(&self, body: &Body, needed: ValueType, part: &str) -> Result<u64, Stop> {
-        let needs = Type(needed);
+        let (source, needs) = (self.source, type_name(needed));
         let [instruction] = body.items() else {
             let count = body.items().len();
-            let words = format_args!(
+            return source.stop(format_args!(
                 "{part} has {count} instructions, where one {needs}.const is needed"
-            );
-            return invalid(self.source, ValidateFault::Initializer, words);
+            ));
         };
         match constant_of(instruction) {
             Some((found, word)) if found == needed => Ok(word),
-            Some((found, _word)) => {
-                let found = Type(found);
-                let words = format_args!(
+            Some((found, _)) => {
+                let found = type_name(found);
+                source.stop(format_args!(
                     "{part} is an {found}.const, where one {needs}.const is needed"
-                );
-                invalid(self.source, ValidateFault::Initializer, words)
+                ))
             }
-            None => {
-                let words = format_args!(
-                    "{part} is no constant, where one {needs}.const is needed"
-                );
-                invalid(self.source, ValidateFault::Initializer, words)
-            }
+            None => source.stop(format_args!(
+                "{part} is no constant, where one {needs}.const is needed"
+            )),
         }
     }
 
@@ -221,7 +167,7 @@ impl<'m> Look<'m> {
         let exports = self.module.exports.as_slice();
         for index in 0..exports.len() {
             let export = &exports[index];
-            self.go_to(Section::Export, index);
+            self.go_to(EXPORT, index);
             self.exported(export)?;
             self.named_once(&exports[..index], export)?;
         }
@@ -232,8 +178,9 @@ impl<'m> Look<'m> {
     fn named_once(&self, earlier: &[Export], export: &Export) -> Result<(), Stop> {
         for (before, other) in earlier.iter().enumerate() {
             if other.name.as_str() == export.name.as_str() {
-                let words = format_args!("export {before} has the same name");
-                return invalid(self.source, ValidateFault::DuplicateExport, words);
+                return self
+                    .source
+                    .stop(format_args!("export {before} has the same name"));
             }
         }
         Ok(())
@@ -257,78 +204,68 @@ impl<'m> Look<'m> {
     fn invoke(&mut self) -> Result<(), Stop> {
         for (index, export) in self.module.exports.as_slice().iter().enumerate() {
             if export.kind == ExternalKind::Function && export.name.as_str() == "invoke" {
-                self.go_to(Section::Export, index);
+                self.go_to(EXPORT, index);
                 return self.invoked(export.index);
             }
         }
         self.place = Place::NOWHERE;
-        self.place.section = Some(Section::Export);
-        let words = "no function is exported as invoke";
-        invalid(self.source, ValidateFault::NoInvoke, words)
+        self.place.section = Some(EXPORT);
+        self.source.stop("no function is exported as invoke")
     }
 
     fn invoked(&self, function: u32) -> Result<(), Stop> {
-        let Some(function_type) = type_of(self.module, function) else {
-            return Ok(());
-        };
-        if function_type.params.is_empty() && function_type.result == Some(I32) {
+        let found = type_of(self.source, self.module, function)?;
+        if found.params.is_empty() && found.result == Some(I32) {
             return Ok(());
         }
-        let found = Signature(function_type);
-        let words = format_args!(
+        let found = Signature(found);
+        self.source.stop(format_args!(
             "function {function} is of type {found}, and invoke is of type [] to [i32]"
-        );
-        invalid(self.source, ValidateFault::NoInvoke, words)
+        ))
     }
 
     fn elements(&mut self) -> Result<(), Stop> {
-        let module = self.module;
-        let functions = function_count(module);
+        let (source, module) = (self.source, self.module);
+        let (tables, count) = (module.tables.as_slice(), function_count(module));
         for (index, segment) in module.elements.as_slice().iter().enumerate() {
-            self.go_to(Section::Element, index);
-            let Some(limits) = module.tables.as_slice().get(segment.table as usize) else {
-                return no_such(self.source, "table", segment.table, module.tables.len());
+            self.go_to(ELEMENT, index);
+            let Some(limits) = tables.get(segment.table as usize) else {
+                return no_such(source, "table", segment.table, tables.len());
             };
             for function in segment.functions.as_slice() {
-                if *function as usize >= functions {
-                    return no_such(self.source, "function", *function, functions);
+                if *function as usize >= count {
+                    return no_such(source, "function", *function, count);
                 }
             }
-            let offset = self.constant(&segment.offset, I32, "its offset")?;
-            self.inside(
-                offset,
-                segment.functions.len(),
-                limits.least as u64,
-                "table",
-            )?;
+            let functions = segment.functions.len();
+            self.inside(&segment.offset, functions, limits.least as u64, "table")?;
         }
         Ok(())
     }
 
     fn data(&mut self) -> Result<(), Stop> {
-        let module = self.module;
-        for (index, segment) in module.data.as_slice().iter().enumerate() {
-            self.go_to(Section::Data, index);
-            let Some(limits) = module.memories.as_slice().get(segment.memory as usize) else {
-                return no_such(self.source, "memory", segment.memory, module.memories.len());
+        let memories = self.module.memories.as_slice();
+        for (index, segment) in self.module.data.as_slice().iter().enumerate() {
+            self.go_to(DATA, index);
+            let Some(limits) = memories.get(segment.memory as usize) else {
+                return no_such(self.source, "memory", segment.memory, memories.len());
             };
-            let offset = self.constant(&segment.offset, I32, "its offset")?;
             let room = PAGE_BYTES * limits.least as u64;
-            self.inside(offset, segment.bytes.len(), room, "memory")?;
+            self.inside(&segment.offset, segment.bytes.len(), room, "memory")?;
         }
         Ok(())
     }
 
     // Whether so many items from an offset on lie in the least size of a table or a memory.
-    fn inside(&self, offset: u64, count: usize, room: u64, noun: &str) -> Result<(), Stop> {
+    fn inside(&self, offset: &Body, count: usize, room: u64, noun: &str) -> Result<(), Stop> {
+        let offset = self.constant(offset, I32, "its offset")?;
         let end = offset.saturating_add(count as u64);
         if end <= room {
             return Ok(());
         }
-        let words = format_args!(
+        self.source.stop(format_args!(
             "it reaches from {offset} to {end}, and the {noun} has {room} at its start"
-        );
-        invalid(self.source, ValidateFault::Segment, words)
+        ))
     }
 }
 

@@ -1,82 +1,51 @@
-//! The sections of a module (Core 1.0, section 5.5.2).
+//! The sections of a module, by their ids (Core 1.0, section 5.5.2).
 
-use std::fmt::{self, Display, Formatter, Write};
 use wasm_decode::limits::{MOST_FUNCTIONS, MOST_PARTS, MOST_TYPES};
 
-/// A section, by its id.
-#[derive(Clone, Copy, PartialEq, Eq)]
-pub(crate) enum Section {
-    Custom = 0,
-    Type = 1,
-    Import = 2,
-    Function = 3,
-    Table = 4,
-    Memory = 5,
-    Global = 6,
-    Export = 7,
-    Start = 8,
-    Element = 9,
-    Code = 10,
-    Data = 11,
+pub(crate) const CUSTOM: u8 = 0;
+
+pub(crate) const TYPE: u8 = 1;
+
+pub(crate) const IMPORT: u8 = 2;
+
+pub(crate) const FUNCTION: u8 = 3;
+
+pub(crate) const TABLE: u8 = 4;
+
+pub(crate) const MEMORY: u8 = 5;
+
+pub(crate) const GLOBAL: u8 = 6;
+
+pub(crate) const EXPORT: u8 = 7;
+
+pub(crate) const ELEMENT: u8 = 9;
+
+pub(crate) const CODE: u8 = 10;
+
+pub(crate) const DATA: u8 = 11;
+
+/// The standard's name of a section. None where no section has the id.
+pub(crate) fn section_name(id: u8) -> Option<&'static str> {
+    let names = "custom type import function table memory global export start element code data";
+    names.split_whitespace().nth(id as usize)
 }
 
-impl Section {
-    /// The section of an id, 0 to 11.
-    pub(crate) fn of_id(id: u8) -> Option<Section> {
-        match id {
-            0 => Some(Section::Custom),
-            1 => Some(Section::Type),
-            2 => Some(Section::Import),
-            3 => Some(Section::Function),
-            4 => Some(Section::Table),
-            5 => Some(Section::Memory),
-            6 => Some(Section::Global),
-            7 => Some(Section::Export),
-            8 => Some(Section::Start),
-            9 => Some(Section::Element),
-            10 => Some(Section::Code),
-            11 => Some(Section::Data),
-            _ => None,
-        }
-    }
-
-    /// What the section has items of.
-    pub(crate) fn item(self) -> &'static str {
-        match self {
-            Section::Custom => "custom section",
-            Section::Type => "type",
-            Section::Import => "import",
-            Section::Function | Section::Code => "function",
-            Section::Table => "table",
-            Section::Memory => "memory",
-            Section::Global => "global",
-            Section::Export => "export",
-            Section::Start => "start function",
-            Section::Element => "element segment",
-            Section::Data => "data segment",
-        }
-    }
-
-    /// The most items that it may have.
-    pub(crate) fn most_items(self) -> u32 {
-        match self {
-            Section::Type => MOST_TYPES,
-            Section::Function | Section::Code => MOST_FUNCTIONS,
-            _ => MOST_PARTS,
-        }
+/// What a section has items of.
+pub(crate) fn item_noun(id: u8) -> &'static str {
+    match id {
+        CODE => "function",
+        ELEMENT => "element segment",
+        DATA => "data segment",
+        _ => section_name(id).unwrap_or(""),
     }
 }
 
-/// The standard's name.
-impl Display for Section {
-    fn fmt<W: Write>(&self, f: &mut Formatter<W>) -> fmt::Result {
-        f.write_str(match self {
-            Section::Code => "code",
-            Section::Custom => "custom",
-            Section::Start => "start",
-            Section::Element => "element",
-            Section::Data => "data",
-            other => other.item(),
-        })
+/// The most items that a section may have.
+pub(crate) fn most_items(id: u8) -> u32 {
+    match id {
+        TYPE => MOST_TYPES,
+        FUNCTION => MOST_FUNCTIONS,
+        CODE => MOST_FUNCTIONS,
+        _ => MOST_PARTS,
     }
 }

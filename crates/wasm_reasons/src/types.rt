@@ -3,44 +3,19 @@
 use std::fmt::{self, Display, Formatter, Write};
 use wasm_ast::{BlockType, FuncType, ValueType};
 
-/// A value type, as it is shown.
-#[derive(Clone, Copy)]
-pub(crate) struct Type(pub(crate) ValueType);
-
-impl Display for Type {
-    fn fmt<W: Write>(&self, f: &mut Formatter<W>) -> fmt::Result {
-        f.write_str(match self.0 {
-            ValueType::I32 => "i32",
-            ValueType::I64 => "i64",
-        })
+/// The name of a value type.
+pub(crate) fn type_name(value_type: ValueType) -> &'static str {
+    match value_type {
+        ValueType::I32 => "i32",
+        ValueType::I64 => "i64",
     }
 }
 
-/// What a block leaves or a branch carries, as it is shown.
-#[derive(Clone, Copy)]
-pub(crate) struct Carried(pub(crate) BlockType);
-
-impl Display for Carried {
-    fn fmt<W: Write>(&self, f: &mut Formatter<W>) -> fmt::Result {
-        match self.0 {
-            None => f.write_str("nothing"),
-            Some(value_type) => write!(f, "{}", Type(value_type)),
-        }
-    }
-}
-
-/// Value types with spaces between, as they are shown.
-#[derive(Clone, Copy)]
-struct Types<'a>(&'a [ValueType]);
-
-impl Display for Types<'_> {
-    fn fmt<W: Write>(&self, f: &mut Formatter<W>) -> fmt::Result {
-        let mut separator = "";
-        for value_type in self.0 {
-            write!(f, "{separator}{}", Type(*value_type))?;
-            separator = " ";
-        }
-        Ok(())
+/// What a block leaves or a branch carries, in words.
+pub(crate) fn carried_name(carried: BlockType) -> &'static str {
+    match carried {
+        None => "nothing",
+        Some(value_type) => type_name(value_type),
     }
 }
 
@@ -50,10 +25,13 @@ pub(crate) struct Signature<'a>(pub(crate) &'a FuncType);
 
 impl Display for Signature<'_> {
     fn fmt<W: Write>(&self, f: &mut Formatter<W>) -> fmt::Result {
-        let parameters = Types(self.0.params.as_slice());
-        match self.0.result {
-            None => write!(f, "[{parameters}] to []"),
-            Some(result) => write!(f, "[{parameters}] to [{}]", Type(result)),
+        let mut before = "[";
+        for value_type in self.0.params.as_slice() {
+            write!(f, "{before}{}", type_name(*value_type))?;
+            before = " ";
         }
+        let open = if self.0.params.is_empty() { "[" } else { "" };
+        let result = self.0.result.map_or("", type_name);
+        write!(f, "{open}] to [{result}]")
     }
 }

@@ -1,274 +1,324 @@
-//! The typing of a function's body, instruction by instruction (Core 1.0, section 3.3).
+//! The typing of functions' bodies, instruction by instruction up to the first fault (Core 1.0,
+//! sections 3.3 and 3.4.1).
 
-use crate::lookup::{function_count, no_part, no_such, type_of};
-use crate::opcodes::{
-    BR, BR_IF, CALL, CALL_INDIRECT, DROP, ELSE, END, GLOBAL_GET, GLOBAL_SET, I32_CONST, I64_CONST,
-    IF, LOCAL_GET, LOCAL_SET, LOCAL_TEE, LOOP, MEMORY_GROW, MEMORY_SIZE, RETURN, SELECT,
-    UNREACHABLE,
-};
-use crate::operands::Operands;
-use crate::place::{Numbered, Spot};
-use crate::shapes::{Shape, shape_of};
-use crate::source::Source;
-use crate::steps::{Immediate, Step};
-use crate::stop::{Stop, invalid};
-use crate::types::{Carried, Type};
+use crate::items::{ELSE, END, IF, LOOP};
+use crate::lookup::{no_such, type_at, type_of};
+use crate::operands::Frame;
+use crate::place::{Numbered, Place, Spot};
+use crate::reader::Reader;
+use crate::section::CODE;
+use crate::source::{Source, Stop};
+use crate::types::{carried_name, type_name};
 use wasm_ast::ValueType::{I32, I64};
-use wasm_ast::{BlockType, MemoryArgument, Module, ValueType};
+use wasm_ast::{BlockType, Func, FuncType, Module, ValueType};
+use wasm_bytes::Cursor;
+use wasm_decode::limits::MODULE_BYTES;
 use wasm_operators::{load, store};
-use wasm_typing::ValidateFault;
 
-/// A function's body while it is typed.
+const BR_IF: u8 = 0x0d;
+
+const LOCAL_GET: u8 = 0x20;
+
+const LOCAL_SET: u8 = 0x21;
+
+const GLOBAL_GET: u8 = 0x23;
+
+/// The bodies of a module while they are typed.
 #[derive(Drop)]
 pub(crate) struct Typing<'m> {
     pub(crate) source: Source<'m>,
-    pub(crate) module: &'m Module,
-    /// The types of the parameters and of the other locals.
-    pub(crate) locals: Vec<ValueType>,
-    pub(crate) result: BlockType,
-    pub(crate) operands: Operands<'m>,
+    module: &'m Module,
+    reader: Reader<'m>,
+    // The types of the parameters and of the other locals.
+    locals: Vec<ValueType>,
+    // The result of the function.
+    result: BlockType,
+    /// The top is last; None is an operand of an unknown type.
+    pub(crate) operands: Vec<Option<ValueType>>,
+    pub(crate) here: Frame,
+    /// The blocks round this one; the outermost is first.
+    pub(crate) outer: Vec<Frame>,
+}
+
+/// Looks for the first instruction of a module that breaks a rule, and leaves the place of it. The
+/// bytes spell the module.
+pub(crate) fn look_at_bodies(
+    source: Source<'_>,
+    module: &Module,
+    place: &mut Place,
+) -> Result<(), Stop> {
+    let mut typing = Typing {
+        source,
+        module,
+        reader: Reader::new(source),
+        locals: Vec::new(source.alloc),
+        result: None,
+        operands: Vec::new(source.alloc),
+        here: Frame::body(None),
+        outer: Vec::new(source.alloc),
+    };
+    let looked = typing.functions();
+    *place = typing.reader.place;
+    looked
 }
 
 impl<'m> Typing<'m> {
-    /// Where an instruction stands: an `else` or an `end` by the block that it belongs to.
-    pub(crate) fn spot(&self, instruction: Numbered) -> Spot {
-        if instruction.opcode != ELSE && instruction.opcode != END {
-            return Spot::At(instruction);
+    fn functions(&mut self) -> Result<(), Stop> {
+        let _ = self.reader.enter_items(CODE)?;
+        let module = self.module;
+        for (index, function) in module.functions.as_slice().iter().enumerate() {
+            self.reader.place.item = Some(index);
+            self.start(function)?;
+            self.body()?;
         }
-        match self.operands.here.opener {
+        Ok(())
+    }
+
+    // Goes to the first instruction of a function.
+    fn start(&mut self, function: &Func) -> Result<(), Stop> {
+        let _ = self.reader.number("the size of its code")?;
+        self.reader.locals()?;
+        self.reader.instructions = 0;
+        let function_type = type_at(self.source, self.module, function.type_index)?;
+        self.result = function_type.result;
+        self.here = Frame::body(function_type.result);
+        self.operands.clear();
+        self.locals.clear();
+        self.locals
+            .extend_from_slice(function_type.params.as_slice())?;
+        self.locals.extend_from_slice(function.locals.as_slice())?;
+        Ok(())
+    }
+
+    fn body(&mut self) -> Result<(), Stop> {
+        for _ in 0..MODULE_BYTES {
+            let offset = self.reader.cursor.offset();
+            let opcode = self.reader.opcode()?;
+            self.reader.place.offset = Some(offset);
+            if opcode == END || opcode == ELSE {
+                self.reader.place.spot = Some(self.end());
+            }
+            if opcode != END {
+                self.instruction(opcode)?;
+            } else if self.exit()? {
+                break;
+            }
+        }
+        Ok(())
+    }
+
+    // Where an `else` or an `end` stands: by the block that it belongs to.
+    fn end(&self) -> Spot {
+        match self.here.opener {
             None => Spot::End,
             Some(opener) => Spot::EndOf(opener),
         }
     }
 
-    /// An instruction. Whether it ends the body.
-    pub(crate) fn check(&mut self, number: u32, step: &Step) -> Result<bool, Stop> {
-        match step.opcode {
-            END => {
-                self.operands.finish_last()?;
-                self.operands.exit()
-            }
+    fn instruction(&mut self, opcode: u8) -> Result<(), Stop> {
+        let from = self.reader.cursor.offset();
+        let number = self.reader.instructions.saturating_sub(1);
+        let immediate = self.reader.immediate(opcode)?;
+        match opcode {
+            0x00 => self.jump(None),
+            0x02..=IF => self.block(Numbered { number, opcode }, immediate),
             ELSE => {
-                self.operands.finish()?;
-                self.operands.begin_else();
-                Ok(false)
+                self.finish()?;
+                self.begin_else();
+                Ok(())
             }
-            _ => {
-                self.instruction(number, step)?;
-                Ok(false)
+            0x0c | BR_IF => self.branch(opcode, immediate),
+            0x0e => {
+                let labels = self.labels(from)?;
+                self.branch_table(&labels)
             }
+            0x0f => {
+                self.pop_result(self.result, "the result of the function")?;
+                self.leave();
+                Ok(())
+            }
+            0x10 => self.call(type_of(self.source, self.module, immediate)?),
+            0x11 => self.call_indirect(immediate),
+            0x1a => {
+                let _ = self.pop("its operand")?;
+                Ok(())
+            }
+            0x1b => self.select(),
+            LOCAL_GET..=0x22 => self.local(opcode, immediate),
+            GLOBAL_GET | 0x24 => self.global(opcode, immediate),
+            0x28..=0x40 => self.access(opcode, immediate),
+            _ => self.operator(opcode),
         }
     }
 
-    fn instruction(&mut self, number: u32, step: &Step) -> Result<(), Stop> {
-        let opcode = step.opcode;
-        match shape_of(opcode, self.source.profile) {
-            Some(Shape::One(taken, given)) => return self.one(taken, given),
-            Some(Shape::Two(taken, given)) => return self.two(taken, given),
-            None => {}
-        }
-        match &step.immediate {
-            Immediate::None => self.without(opcode),
-            Immediate::Block(result) => self.enter(Numbered { number, opcode }, *result),
-            Immediate::Index(index) => self.indexed(opcode, *index),
-            Immediate::Labels(labels) => self.branch_table(labels),
-            Immediate::Access(argument) => self.access(opcode, *argument),
+    // A constant or an operator on words: how many operands it takes, their type, and the result's.
+    fn operator(&mut self, opcode: u8) -> Result<(), Stop> {
+        match opcode {
+            0x41 => self.apply(0, I32, I32),
+            0x42 => self.apply(0, I64, I64),
+            0x45 | 0x67..=0x69 | 0xc0 | 0xc1 => self.apply(1, I32, I32),
+            0x46..=0x4f | 0x6a..=0x78 => self.apply(2, I32, I32),
+            0x50 | 0xa7 => self.apply(1, I64, I32),
+            0x51..=0x5a => self.apply(2, I64, I32),
+            0x79..=0x7b | 0xc2..=0xc4 => self.apply(1, I64, I64),
+            0x7c..=0x8a => self.apply(2, I64, I64),
+            0xac | 0xad => self.apply(1, I32, I64),
+            _ => Ok(()),
         }
     }
 
-    fn enter(&mut self, opener: Numbered, left: BlockType) -> Result<(), Stop> {
-        if opener.opcode == IF {
-            self.operands.pop_as(I32, "its condition")?;
+    // Takes so many operands of a type, and leaves a result.
+    fn apply(&mut self, count: u8, taken: ValueType, given: ValueType) -> Result<(), Stop> {
+        if count == 2 {
+            self.pop_as(taken, "its second operand")?;
+            self.pop_as(taken, "its first operand")?;
+        } else if count == 1 {
+            self.pop_as(taken, "its operand")?;
         }
-        let carried = if opener.opcode == LOOP { None } else { left };
-        self.operands.enter(opener, carried, left)
+        self.push(Some(given))
     }
 
-    fn one(&mut self, taken: ValueType, given: ValueType) -> Result<(), Stop> {
-        self.operands.pop_as(taken, "its operand")?;
-        self.operands.push(Some(given))
-    }
-
-    fn two(&mut self, taken: ValueType, given: ValueType) -> Result<(), Stop> {
-        self.operands.pop_as(taken, "its second operand")?;
-        self.operands.pop_as(taken, "its first operand")?;
-        self.operands.push(Some(given))
-    }
-
-    // A load or a store.
-    fn access(&mut self, opcode: u8, argument: MemoryArgument) -> Result<(), Stop> {
-        if let Some(load) = load(opcode) {
-            self.aligned(argument.align, load.width())?;
-            self.operands.pop_as(I32, "its address")?;
-            return self.operands.push(Some(load.value_type()));
-        }
-        if let Some(store) = store(opcode) {
-            self.aligned(argument.align, store.width())?;
-            self.operands
-                .pop_as(store.value_type(), "the value that it stores")?;
-            return self.operands.pop_as(I32, "its address");
-        }
+    // An instruction behind which the rest of the block cannot be reached.
+    fn jump(&mut self, carried: BlockType) -> Result<(), Stop> {
+        self.pop_result(carried, "what it carries to its label")?;
+        self.leave();
         Ok(())
     }
 
-    // Whether there is a memory, and 2 to the power of an alignment is at most a width.
+    // A block with the byte of its type.
+    fn block(&mut self, opener: Numbered, block_type: u32) -> Result<(), Stop> {
+        if opener.opcode == IF {
+            self.pop_as(I32, "its condition")?;
+        }
+        let result = match block_type {
+            0x7f => Some(I32),
+            0x7e => Some(I64),
+            _ => None,
+        };
+        let mut frame = Frame::body(result);
+        if opener.opcode == LOOP {
+            frame.carried = None;
+        }
+        self.enter(opener, frame)
+    }
+
+    // A load, a store, `memory.size` or `memory.grow`.
+    fn access(&mut self, opcode: u8, align: u32) -> Result<(), Stop> {
+        if self.module.memories.is_empty() {
+            return self
+                .source
+                .stop("it needs a memory, and the module has none");
+        }
+        if let Some(load) = load(opcode) {
+            self.aligned(align, load.width())?;
+            self.pop_as(I32, "its address")?;
+            return self.push(Some(load.value_type()));
+        }
+        if let Some(store) = store(opcode) {
+            self.aligned(align, store.width())?;
+            self.pop_as(store.value_type(), "the value that it stores")?;
+            return self.pop_as(I32, "its address");
+        }
+        self.apply(opcode.saturating_sub(0x3f), I32, I32)
+    }
+
+    // Whether 2 to the power of an alignment is at most a width.
     fn aligned(&self, align: u32, width: u32) -> Result<(), Stop> {
-        self.needs_memory()?;
         if align < u32::BITS && 1 << align <= width {
             return Ok(());
         }
-        let words = format_args!("its alignment is 2^{align} bytes, and it moves {width}");
-        invalid(self.source, ValidateFault::Alignment, words)
-    }
-
-    fn needs_memory(&self) -> Result<(), Stop> {
-        if self.module.memories.is_empty() {
-            return no_part(self.source, "memory");
-        }
-        Ok(())
-    }
-
-    // An instruction with nothing behind its opcode that typing looks at.
-    fn without(&mut self, opcode: u8) -> Result<(), Stop> {
-        match opcode {
-            UNREACHABLE => {
-                self.operands.leave();
-                Ok(())
-            }
-            RETURN => {
-                self.operands
-                    .pop_result(self.result, "the result of the function")?;
-                self.operands.leave();
-                Ok(())
-            }
-            DROP => {
-                let _ = self.operands.pop("its operand")?;
-                Ok(())
-            }
-            SELECT => self.select(),
-            MEMORY_SIZE => {
-                self.needs_memory()?;
-                self.operands.push(Some(I32))
-            }
-            MEMORY_GROW => {
-                self.needs_memory()?;
-                self.one(I32, I32)
-            }
-            I32_CONST => self.operands.push(Some(I32)),
-            I64_CONST => self.operands.push(Some(I64)),
-            _ => Ok(()),
-        }
+        self.source.stop(format_args!("its alignment is 2^{align} bytes, and it moves {width}"))
     }
 
     fn select(&mut self) -> Result<(), Stop> {
-        self.operands.pop_as(I32, "its condition")?;
-        let second = self.operands.pop("its second operand")?;
-        let first = self.operands.pop("its first operand")?;
+        self.pop_as(I32, "its condition")?;
+        let second = self.pop("its second operand")?;
+        let first = self.pop("its first operand")?;
         match (first, second) {
             (Some(one), Some(other)) if one != other => {
-                let (one, other) = (Type(one), Type(other));
-                let words = format_args!(
+                let (one, other) = (type_name(one), type_name(other));
+                self.source.stop(format_args!(
                     "its operands are of types {one} and {other}, where one type is needed"
-                );
-                invalid(self.source, ValidateFault::TypeMismatch, words)
+                ))
             }
-            (None, _) => self.operands.push(second),
-            _ => self.operands.push(first),
-        }
-    }
-
-    // An instruction with an index.
-    fn indexed(&mut self, opcode: u8, index: u32) -> Result<(), Stop> {
-        match opcode {
-            BR | BR_IF => self.branch(opcode, index),
-            CALL => self.call(index),
-            CALL_INDIRECT => self.call_indirect(index),
-            LOCAL_GET | LOCAL_SET | LOCAL_TEE => self.local(opcode, index),
-            GLOBAL_GET | GLOBAL_SET => self.global(opcode, index),
-            _ => Ok(()),
+            _ => {
+                self.operands.push(first.or(second))?;
+                Ok(())
+            }
         }
     }
 
     // A `br` or a `br_if`.
     fn branch(&mut self, opcode: u8, label: u32) -> Result<(), Stop> {
-        let Some(carried) = self.operands.label(label) else {
-            return no_such(self.source, "label", label, self.operands.labels());
-        };
-        if opcode == BR_IF {
-            self.operands.pop_as(I32, "its condition")?;
-            self.operands
-                .pop_result(carried, "what it carries to its label")?;
-            return self.operands.push_result(carried);
+        let carried = self.label(label)?;
+        if opcode != BR_IF {
+            return self.jump(carried);
         }
-        self.operands
-            .pop_result(carried, "what it carries to its label")?;
-        self.operands.leave();
-        Ok(())
+        self.pop_as(I32, "its condition")?;
+        self.pop_result(carried, "what it carries to its label")?;
+        self.push(carried)
     }
 
-    // A `br_table`, by its labels, of which the last is the default.
-    fn branch_table(&mut self, labels: &[u32]) -> Result<(), Stop> {
-        let Some(default) = labels.last() else {
-            return Ok(());
-        };
-        let count = self.operands.labels();
-        let Some(carried) = self.operands.label(*default) else {
-            return no_such(self.source, "label", *default, count);
-        };
-        for label in labels {
-            if self.operands.label(*label).is_none() {
-                return no_such(self.source, "label", *label, count);
-            }
+    // The labels of a `br_table` from an offset on, of which the last is the default.
+    fn labels(&self, from: usize) -> Result<Vec<u32>, Stop> {
+        let mut cursor = Cursor::new(self.source.bytes.get(from..).unwrap_or(&[]));
+        let count = cursor.u32_leb()?;
+        let mut labels = Vec::new(self.source.alloc);
+        for _ in 0..count {
+            labels.push(cursor.u32_leb()?)?;
         }
-        self.operands
-            .pop_as(I32, "the operand that picks its label")?;
-        self.operands
-            .pop_result(carried, "what it carries to its label")?;
+        labels.push(cursor.u32_leb()?)?;
+        Ok(labels)
+    }
+
+    fn branch_table(&mut self, labels: &[u32]) -> Result<(), Stop> {
+        let default = labels.last().copied().unwrap_or(0);
+        let carried = self.label(default)?;
+        for label in labels {
+            let _ = self.label(*label)?;
+        }
+        self.pop_as(I32, "the operand that picks its label")?;
+        self.pop_result(carried, "what it carries to its label")?;
         for label in labels {
             self.carries(*label, carried)?;
         }
-        self.operands.leave();
+        self.leave();
         Ok(())
     }
 
     // Whether a branch to a label carries the same as one to the default.
     fn carries(&self, label: u32, carried: BlockType) -> Result<(), Stop> {
-        match self.operands.label(label) {
-            Some(other) if other != carried => {
-                let (other, carried) = (Carried(other), Carried(carried));
-                let words = format_args!(
-                    "its label {label} carries {other}, and its default label {carried}"
-                );
-                invalid(self.source, ValidateFault::TypeMismatch, words)
-            }
-            _ => Ok(()),
+        let other = self.label(label)?;
+        if other == carried {
+            return Ok(());
         }
+        let (other, carried) = (carried_name(other), carried_name(carried));
+        self.source.stop(format_args!(
+            "its label {label} carries {other}, and its default label {carried}"
+        ))
     }
 
-    fn call(&mut self, function: u32) -> Result<(), Stop> {
-        let Some(called) = type_of(self.module, function) else {
-            return no_such(
-                self.source,
-                "function",
-                function,
-                function_count(self.module),
-            );
-        };
-        self.operands.pop_arguments(called.params.as_slice())?;
-        self.operands.push_result(called.result)
+    // Takes the arguments of a call, of which the last is on top, and leaves its result.
+    fn call(&mut self, called: &FuncType) -> Result<(), Stop> {
+        let params = called.params.as_slice();
+        let count = params.len();
+        for behind in 0..count {
+            let before = count - 1 - behind;
+            let part = format!(in self.source.alloc; "its argument {before}")?;
+            self.pop_as(params[before], &part)?;
+        }
+        self.push(called.result)
     }
 
     fn call_indirect(&mut self, type_index: u32) -> Result<(), Stop> {
         if self.module.tables.is_empty() {
-            return no_part(self.source, "table");
+            return self
+                .source
+                .stop("it needs a table, and the module has none");
         }
-        let types = self.module.types.as_slice();
-        let Some(called) = types.get(type_index as usize) else {
-            return no_such(self.source, "type", type_index, types.len());
-        };
-        self.operands.pop_as(I32, "its place in the table")?;
-        self.operands.pop_arguments(called.params.as_slice())?;
-        self.operands.push_result(called.result)
+        let called = type_at(self.source, self.module, type_index)?;
+        self.pop_as(I32, "its place in the table")?;
+        self.call(called)
     }
 
     // A `local.get`, a `local.set` or a `local.tee`.
@@ -277,10 +327,10 @@ impl<'m> Typing<'m> {
             return no_such(self.source, "local", local, self.locals.len());
         };
         if opcode != LOCAL_GET {
-            self.operands.pop_as(value_type, "its operand")?;
+            self.pop_as(value_type, "its operand")?;
         }
         if opcode != LOCAL_SET {
-            self.operands.push(Some(value_type))?;
+            self.push(Some(value_type))?;
         }
         Ok(())
     }
@@ -293,12 +343,11 @@ impl<'m> Typing<'m> {
         };
         let global_type = found.global_type;
         if opcode == GLOBAL_GET {
-            return self.operands.push(Some(global_type.value_type));
+            return self.push(Some(global_type.value_type));
         }
         if !global_type.is_variable {
-            let words = format_args!("it writes global {global}, which is constant");
-            return invalid(self.source, ValidateFault::ImmutableGlobal, words);
+            return self.source.stop(format_args!("it writes global {global}, which is constant"));
         }
-        self.operands.pop_as(global_type.value_type, "its operand")
+        self.pop_as(global_type.value_type, "its operand")
     }
 }
