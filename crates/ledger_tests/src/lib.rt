@@ -20,6 +20,8 @@ mod fabric_core_test;
 #[cfg(test)]
 mod growths_test;
 #[cfg(test)]
+mod kept_state_test;
+#[cfg(test)]
 mod memory_files_test;
 #[cfg(test)]
 mod orderer_test;
