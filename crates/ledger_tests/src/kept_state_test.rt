@@ -1,33 +1,27 @@
 //! What is kept of a chain of two blocks, in which an id comes twice and an amendment stands; and ids
 //! in runs.
 
-use crate::samples::{decoded, refusal_of, transaction};
-use fab_types::{Block, Bound, Envelope, Flag, Key};
+use crate::samples::{is_taken, transaction};
+use fab_types::{Block, Bound, Flag, Key};
 use id_runs::IdRuns;
 use kept_state::State;
 use orderer::Orderer;
 use std::alloc::{AllocError, Global};
 use std::test::Fail;
-use wire::{header_hash, tx_id};
+use wire::{decode_envelope, header_hash};
 use world_state::{Judged, Past, tx_ids};
 
 /// The bytes of an amendment that no one endorsed: A keeps its key, and the policy is `'A'`.
 const AMENDMENT: [u8; 40] =
     *b"\x80\x01\x00\x00\x00\x01\x01\x01A\x00\x00\x03'A'\x00\x00\x00\x00\x00\x00\x00\x00\x00\x00\x00\x00\x00\x00\x00\x00\x00\x00\x00\x00\x00\x00\x00\x00\x00";
 
-fn accept(orderer: &mut Orderer, envelope: Envelope) -> Result<(), Fail> {
-    if refusal_of(orderer, envelope) != 0 {
-        return Err("a block".into());
-    }
-    Ok(())
-}
-
-/// Orders two blocks: of two calls, and of an amendment and the first call once more.
-fn order(alloc: Global, orderer: &mut Orderer) -> Result<(), Fail> {
-    accept(orderer, transaction(alloc, 1, 1)?)?;
-    accept(orderer, transaction(alloc, 2, 2)?)?;
-    accept(orderer, decoded(alloc, &AMENDMENT)?)?;
-    accept(orderer, transaction(alloc, 1, 1)?)
+/// Orders two blocks: of two calls, and of an amendment and the first call once more. Whether all
+/// were taken.
+fn are_ordered(alloc: Global, orderer: &mut Orderer) -> bool {
+    is_taken(orderer, transaction(alloc, 1, 1))
+        && is_taken(orderer, transaction(alloc, 2, 2))
+        && is_taken(orderer, decode_envelope(alloc, &AMENDMENT).ok())
+        && is_taken(orderer, transaction(alloc, 1, 1))
 }
 
 /// Whether a block of two transactions is put behind what is kept, the first of them VALID and the
@@ -93,36 +87,35 @@ fn has_entries(alloc: Global, state: &State) -> bool {
 }
 
 /// Whether two blocks are put behind nothing, and what is kept answers as it has to.
-fn is_kept(
-    alloc: Global,
-    state: &mut State,
-    blocks: &[Block],
-    id: &[u8; 32],
-) -> Result<bool, AllocError> {
+fn is_kept(alloc: Global, state: &mut State, blocks: &[Block]) -> Result<bool, AllocError> {
     let [first, second] = blocks else {
         return Ok(false);
     };
+    let ids = tx_ids(alloc, first)?;
     let is_first = is_put(alloc, state, first, Flag::Valid)?;
     let is_second = is_put(alloc, state, second, Flag::DuplicateTxid)?;
-    let has_id = state.has_tx(id) && state.block_of(id) == Some(1);
-    Ok(is_first
-        && is_second
-        && has_id
-        && has_hashes(state, first, second)
-        && has_amended(state)
-        && has_put(state)
-        && has_entries(alloc, state))
+    let has_ids = ids
+        .iter()
+        .all(|id| state.has_tx(id) && state.block_of(id) == Some(1));
+    Ok(
+        is_first
+            && is_second
+            && has_ids
+            && has_hashes(state, first, second)
+            && has_amended(state)
+            && has_put(state)
+            && has_entries(alloc, state),
+    )
 }
 
 #[test]
 fn two_blocks_are_kept(rt: HostRuntime) -> Result<(), Fail> {
     let alloc = rt.alloc();
-    let id = tx_id(alloc, transaction(alloc, 1, 1)?.payload.proposal())?;
     let mut orderer = Orderer::new(alloc, 2, 1000, 1000, false);
-    order(alloc, &mut orderer)?;
+    let are_ordered = are_ordered(alloc, &mut orderer);
     let mut state = State::empty(alloc);
-    let is_kept = is_kept(alloc, &mut state, orderer.blocks(), &id);
-    assert!(rt; is_kept == Ok(true));
+    let is_kept = is_kept(alloc, &mut state, orderer.blocks());
+    assert!(rt; are_ordered && is_kept == Ok(true));
     Ok(())
 }
 
@@ -130,11 +123,13 @@ fn two_blocks_are_kept(rt: HostRuntime) -> Result<(), Fail> {
 fn are_found(alloc: Global) -> Result<bool, AllocError> {
     let first = IdRuns::empty(alloc).with(alloc, &[[1; 32], [2; 32]], 1)?;
     let both = first.with(alloc, &[[2; 32], [3; 32]], 2)?;
-    Ok(both.find(&[1; 32]) == Some(1)
-        && both.find(&[2; 32]) == Some(1)
-        && both.find(&[3; 32]) == Some(2)
-        && both.find(&[4; 32]).is_none()
-        && first.find(&[3; 32]).is_none())
+    Ok(
+        both.find(&[1; 32]) == Some(1)
+            && both.find(&[2; 32]) == Some(1)
+            && both.find(&[3; 32]) == Some(2)
+            && both.find(&[4; 32]).is_none()
+            && first.find(&[3; 32]).is_none(),
+    )
 }
 
 #[test]

@@ -46,7 +46,7 @@ impl<'a> Source<'a> {
         for _ in 0..count {
             reader.item(EXPORT)?;
             match reader.external {
-                Some(export) if export.kind == 0 && export.index as usize == function => {
+                Some(export) if export.kind == 0 && u64::from(export.index) == function as u64 => {
                     return Ok(Some(export));
                 }
                 _ => {}
