@@ -4,20 +4,20 @@ use Rattle.std.proofs.Common.{ap, refl, subst, sym}
 use Rattle.fab_types.specs.Payloads.{Payload}
 use Rattle.fab_types.specs.declared.envelope.Endorsement.{Endorsement}
 use Rattle.fab_types.specs.declared.proposal.Proposal.{Proposal}
+use Rattle.chaincode_book.specs.Books.{Book}
 use Rattle.endorsement_policy.specs.Endorsed.{seal_of}
 use Rattle.endorsement_policy.specs.Judge.{plain_after}
 use Rattle.endorser.specs.Endorsing.{endorsed_on, sealed_by, simulated_on}
 use Rattle.fabric_core.specs.Headline.{IsAmong}
 use Rattle.json_events.specs.Spelling.{SpellsProposal}
 use Rattle.ledger_model.specs.Chain.{Bytes, Chain, history}
-use Rattle.ledger_model.specs.Execution.{Ending, Outcome, payload_of}
+use Rattle.ledger_model.specs.Execution.{Ending, NotInstalled, Outcome, payload_of}
 use Rattle.ledger_model.specs.State.{state}
-use Rattle.ledger_model.specs.Views.{values_of}
+use Rattle.ledger_model.specs.Views.{Plain, values_of}
 use Rattle.ledger_setting.specs.declared.genesis.Genesis.{Genesis}
 use Rattle.log_committer.specs.Peering.{Held}
 use Rattle.log_system.specs.Machines.{Setting, endorsing_at}
 use Rattle.log_system.specs.Peers.{Answers, Deed, DoesDeeds, lines_of}
-use Rattle.log_system.proofs.Roles.{PartsAnswerAlike}
 use Rattle.simulator.specs.Answers.{done_or_refusal}
 use Rattle.simulator.specs.Execution.{IsPartOf, exec_of}
 use Rattle.simulator.specs.declared.refusal.SimRefusal.{SimRefusal}
@@ -31,6 +31,12 @@ use Rattle.peer_answers.specs.declared.place.Place.TheVariants.{Keyless, Stands,
 use Rattle.cli_peer.specs.Peering.{DoesAsked}
 use Rattle.peer_laws.specs.Acting.{AreOfCall, answer_line, own_words}
 use Rattle.peer_laws.specs.Together.{GoesBy, SealsAs}
+
+-- who has fewer modules at hand comes to what who has more comes to, or ends as where a module is not at hand
+abbrev pub PartsAnswerAlike : Type 0
+PartsAnswerAlike =
+    (part whole : Book) → IsPartOf part whole → (p : Proposal) (m : Plain) →
+    (exec_of part p m ≡ exec_of whole p m) ⊎ ((exec_of part p m).ending ≡ NotInstalled)
 
 abbrev Answer : Type 0
 Answer = Result (Payload × Endorsement) SimRefusal

@@ -9,7 +9,6 @@ use Rattle.log_committer.specs.Peering.{Held, ReadsLine}
 use Rattle.log_peer.specs.Peering.{told_by}
 use Rattle.log_system.specs.Machines.{Setting}
 use Rattle.log_system.specs.Peers.{Answers, Deed, DoesDeeds, Takes, lines_of}
-use Rattle.log_system.proofs.Roles.{PartsAnswerAlike}
 use Rattle.peer_answers.specs.Answering.{Peer}
 use Rattle.peer_answers.specs.Lines.{Asks, Logs, Said, said_in}
 use Rattle.peer_answers.specs.declared.line.Request.TheVariants as request
@@ -19,7 +18,7 @@ use Rattle.cli_peer.specs.Logged.{Reached}
 use Rattle.cli_peer.specs.Peering.{DoesLine, DoesSaid}
 use Rattle.peer_laws.specs.Acting.{ActsLine, AreDeeds, acting}
 use Rattle.peer_laws.specs.Together.{GoesBy}
-use Rattle.peer_laws.proofs.Calls.{call_acts}
+use Rattle.peer_laws.proofs.Calls.{PartsAnswerAlike, call_acts}
 
 -- ---- deeds
 

@@ -14,7 +14,6 @@ use Rattle.log_system.specs.Machines.{AreMachines, DoesEach, Machine, Setting, u
 use Rattle.log_system.specs.OneSystem.{IsOneSystem}
 use Rattle.log_system.specs.Peers.{Deed, DoesDeeds, IsMachine, begun, calls_of, lines_of}
 use Rattle.log_system.specs.Restarts.{AreToldApart}
-use Rattle.log_system.proofs.Roles.{PartsAnswerAlike}
 use Rattle.orderer.specs.Ordering.{AreLimits, Ordering}
 use Rattle.orderer.specs.declared.report.BatchReport.{BatchReport}
 use Rattle.org_keys.specs.Signers.{Seeds}
@@ -22,6 +21,7 @@ use Rattle.store_replay.specs.Lawful.{AreLawful}
 use Rattle.peer_answers.specs.Answering.{Peer}
 use Rattle.cli_peer.specs.Peering.{opened}
 use Rattle.peer_laws.specs.Together.{Follower, Follows, GoesBy, HasGenesis, IsMachineOf, SealsAs, setting_by}
+use Rattle.peer_laws.proofs.Calls.{PartsAnswerAlike}
 use Rattle.peer_laws.proofs.Lines.{lines_act}
 
 -- what holds of a peer of a log, and of machines beside one
