@@ -5,3 +5,4 @@ pub mod Left
 pub mod OneAnswer
 pub mod Beginnings
 pub mod EachStore
+pub mod OneRecord

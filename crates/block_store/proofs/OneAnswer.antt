@@ -119,7 +119,7 @@ module _ (n : ℕ) (bytes : List ℕ) (c : Committed) (rest : List ℕ) (is : Is
   one_each : length numbers ≡ length c.block.envelopes
   one_each = length-map c.flags flag_number ∙ is.flags
 
-  not_beginning : IsBeginning n bytes → ⊥
+  pub not_beginning : IsBeginning n bytes → ⊥
   not_beginning = sealed_is_whole n bytes c.block numbers (sealing c) rest is.block split one_each (length-sha256 (digest_input c))
 
   same_parts : (b : Block) (others digest left : List ℕ) → IsBlockAt n b → length others ≡ length b.envelopes → length digest ≡ 32 →
@@ -141,7 +141,7 @@ flag_small DuplicateTxid = omega arith
 are_flags : (fs : List Flag) → AreFlags (map flag_number fs)
 are_flags fs = All-map (λ m. m ≤ 4) flag_number fs (λ i f _. flag_small _)
 
-not_damaged : (n : ℕ) (bytes : List ℕ) (c : Committed) (rest : List ℕ) → IsRecord n c → bytes ≡ record_bytes c ++ rest → IsDamaged n bytes → ⊥
+pub not_damaged : (n : ℕ) (bytes : List ℕ) (c : Committed) (rest : List ℕ) → IsRecord n c → bytes ≡ record_bytes c ++ rest → IsDamaged n bytes → ⊥
 not_damaged n bytes c rest is are (inl h) = has_right_length n bytes c.block (behind n bytes c rest is are) is.block (split n bytes c rest is are) h
 not_damaged n bytes c rest is are (inr (inl h)) = is_spelled n bytes c.block (behind n bytes c rest is are) is.block (split n bytes c rest is are) h
 not_damaged n bytes c rest is are (inr (inr h)) =
@@ -170,7 +170,7 @@ flags_back : (fs : List Flag) → map flag_of (map flag_number fs) ≡ fs
 flags_back [] = refl
 flags_back (f ∷ fs) = ap₂ (λ (x : Flag) (xs : List Flag). x ∷ xs) (flag_back f) (flags_back fs)
 
-same_record : (n : ℕ) (bytes : List ℕ) (c d : Committed) (rest left : List ℕ) → IsRecord n c → IsRecord n d → bytes ≡ record_bytes c ++ rest →
+pub same_record : (n : ℕ) (bytes : List ℕ) (c d : Committed) (rest left : List ℕ) → IsRecord n c → IsRecord n d → bytes ≡ record_bytes c ++ rest →
     bytes ≡ record_bytes d ++ left → (c ≡ d) × (rest ≡ left)
 same_record n bytes c d rest left is other are same =
     let parts = same_parts n bytes c rest is are d.block (map flag_number d.flags) (sealing d) left other.block (one_each n bytes d left other same)

@@ -6,3 +6,4 @@ pub mod Front
 pub mod Progress
 pub mod Loading
 pub mod Appending
+pub mod OneRecord

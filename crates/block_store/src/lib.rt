@@ -4,7 +4,8 @@
 //! damage, in pieces of at most 65,536 bytes, and gives the records and the end that its bytes have
 //! (`specs/Store.antt`). Both work over devices that count their failed calls in the contract alone
 //! ([`CountedWrite`], [`CountedRead`]); a device is blamed exactly where its count rose.
-//! [`RecordReader`] does the reading for a store that comes in pieces (`specs/Progress.antt`).
+//! [`RecordReader`] does the reading for a store that comes in pieces (`specs/Progress.antt`), and
+//! [`read_record`] that of one record.
 #![tactic(auto)]
 
 mod appending;
@@ -14,8 +15,10 @@ mod flag_numbers;
 mod front;
 mod laws;
 mod loading;
+mod one_record;
 mod record_reader;
 mod records;
+mod sinking;
 
 pub use appending::{AppendFault, append, encode_record};
 pub use device::{CountedRead, CountedWrite, DeviceError};
@@ -25,4 +28,6 @@ pub use laws::{
     pieces_load,
 };
 pub use loading::{Loaded, load};
+pub use one_record::{read_record, record_size};
 pub use record_reader::RecordReader;
+pub use sinking::{RecordSink, StoreEnd, read_into};

@@ -43,7 +43,9 @@ impl Write for MemoryStore {
 }
 
 impl StoreFile for MemoryStore {
-    ghost use Rattle.std.specs.Prelude.{Some};
+    ghost use Rattle.std.specs.Prelude.{Some, true};
+
+    ghost is_known = { true };
 
     ghost on_disk = { λ store. Some store.bytes.items };
 

@@ -1,1 +1,4 @@
 pub mod Standing
+pub mod Blocks
+pub mod Asking
+pub mod Keeping

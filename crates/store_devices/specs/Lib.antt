@@ -1,2 +1,4 @@
 pub mod History
 pub mod StoreFile
+pub mod Places
+pub mod Placed

@@ -2,7 +2,8 @@
 //!
 //! [`Counted`] keeps what its calls moved and how many of them failed in a [`History`] that exists in
 //! contracts alone: it takes no memory, and the count has no greatest. [`StoreFile`] is the file of a
-//! store, and [`StoreReader`] reads it from its first byte on.
+//! store, [`StoreReader`] reads it from its first byte on, and [`read_placed`] a record where it lies
+//! ([`Places`]).
 #![tactic(auto)]
 
 ghost use Rattle.std.specs.Prelude.{◌≡◌, suc, OnOk, OnErr};
@@ -11,12 +12,16 @@ ghost use Rattle.store_devices.specs.History.{cut_back, fresh};
 ghost use Rattle.store_devices.specs.StoreFile.{CutsBack, MayCutBack};
 
 mod history;
+mod placed;
+mod places;
 mod store_file;
 mod store_reader;
 
 use crate::history::Call;
 use block_store::{CountedRead, CountedWrite, DeviceError};
 pub use history::History;
+pub use placed::{PlacedFault, read_exact_from, read_placed};
+pub use places::Places;
 use std::io::{Read, Write};
 pub use store_file::StoreFile;
 pub use store_reader::StoreReader;

@@ -1,6 +1,6 @@
 //! The file of a store.
 
-ghost use Rattle.std.specs.Prelude.{ℕ, List, Option, None, OnErr, OnOk};
+ghost use Rattle.std.specs.Prelude.{◌≡◌, ℕ, Bool, true, false, List, Option, None, IsOk, IsSome, OnErr, OnOk};
 ghost use Rattle.std.specs.Io.{ReadsAtMost};
 ghost use Rattle.std.specs.Io.KnownBytes.{Keeps};
 ghost use Rattle.store_devices.specs.StoreFile.{CutsBack, MayCutBack, ReadsFrom};
@@ -9,8 +9,11 @@ use std::fs::{File, OpenFile};
 use std::io::{self, Seek, SeekFrom, Write};
 use std::os::unix::fs::FileExt;
 
-/// A file that is read at any place, and written at its end.
-pub trait StoreFile: Write + Drop {
+/// A file that is read at any place, by several threads at once, and written at its end.
+pub trait StoreFile: Write + Drop + Sync {
+    /// Whether the bytes of each file of the type are known. Then no read of one fails.
+    ghost is_known: { Bool } = { false };
+
     /// The bytes that are on the disk by the last sync, where they are known.
     ghost on_disk: { Self → Option (List ℕ) } = { λ _. None };
 
@@ -18,7 +21,8 @@ pub trait StoreFile: Write + Drop {
     /// and answers with how many: none only at its end, or where the buffer has no room.
     fn read_at(&self, buffer: &mut [u8], place: u64) -> io::Result<usize>
         ensures bound { ReadsAtMost result buffer.new }
-        ensures bytes { ReadsFrom (Self.contents self.now) place result buffer.new };
+        ensures bytes { ReadsFrom (Self.contents self.now) place result buffer.new }
+        ensures known { is_known ≡ true → IsSome (Self.contents self.now) × IsOk result };
 
     /// Takes so many bytes away from its end. Behind an error it may have them or not.
     fn cut_back(&mut self, count: usize) -> io::Result<()>

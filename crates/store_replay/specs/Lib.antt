@@ -2,3 +2,4 @@ pub mod Replay
 pub mod Lawful
 pub mod Tags
 pub mod Numbers
+pub mod Recommitting

@@ -3,18 +3,18 @@
 ghost use Rattle.std.specs.Prelude.{◌≡◌, true, [], ◌∷◌, IfOk, IfSome, MatchOption};
 ghost use Rattle.std.specs.FinMap.{get};
 ghost use Rattle.fab_types.specs.Memberships.{membership_key};
-ghost use Rattle.endorsement_policy.specs.Judge.{orgs_behind, plain_after};
-ghost use Rattle.store_replay.specs.Tags.{AreRightTags, IsKnown, right_in_record};
+ghost use Rattle.endorsement_policy.specs.Judge.{plain_in};
+ghost use Rattle.store_replay.specs.Tags.{AreRightTags, IsKnown, orgs_kept, right_in_record};
 
 use crate::tags::TagChecks;
 use crate::watch::Watch;
-use endorsement_policy::{Rules, membership_value};
+use endorsement_policy::{Rules, value_of_membership};
 use fab_types::{CommittedBlock, Value};
 use policy_language::OrgSet;
 use std::alloc::{AllocError, Global};
 use std::collections::VecDeque;
 use std::thread::Threads;
-use world_state::Snapshot;
+use world_state::{Past, StateMap};
 
 /// Records whose blocks are still to be judged, and what is known of the first of them: which of
 /// the organisations that stand have right tags in them. Who stands is by the value at the key of
@@ -27,11 +27,11 @@ pub struct Pending {
     value: Option<Value>,
 }
 
-/// The value that the key of the membership has behind a chain. The error is of memory.
-fn standing_value(snapshot: &Snapshot) -> Result<Option<Value>, AllocError>
-    ensures { IfOk result (λ v. v ≡ get (plain_after snapshot.now) membership_key) }
+/// The value that the key of the membership has in a state. The error is of memory.
+fn standing_value(state: &StateMap) -> Result<Option<Value>, AllocError>
+    ensures { IfOk result (λ v. v ≡ get (plain_in state.now.entries) membership_key) }
 {
-    match membership_value(snapshot) {
+    match value_of_membership(state) {
         Some(value) => Ok(Some(value.clone()?)),
         None => Ok(None),
     }
@@ -52,12 +52,12 @@ impl Pending {
 
     /// Takes the next record, which is to be put behind a chain, and what is known of it. Where
     /// nothing is known of what is left for who stands there, tags are looked at first.
-    pub fn next<T: Threads + Sync, V: Watch>(
+    pub fn next<T: Threads + Sync, V: Watch, P: Past>(
         &mut self,
         tags: &TagChecks<'_, T, V>,
         alloc: Global,
         rules: &Rules,
-        snapshot: &Snapshot,
+        past: &P,
     ) -> Option<(CommittedBlock, Option<Vec<OrgSet>>)>
         requires known { IsKnown rules.now self.old }
         ensures known { IsKnown rules.now self.new }
@@ -65,54 +65,56 @@ impl Pending {
             (λ p. self.old.records.items ≡ p.0 ∷ self.new.records.items) }
         ensures right { IfSome result
             (λ p. IfSome p.1
-            (λ v. v.items ≡ right_in_record (orgs_behind rules.now snapshot.now) p.0)) }
+            (λ v. v.items ≡ right_in_record (orgs_kept rules.now (P.kept past.now)) p.0)) }
     {
-        self.look_ahead(tags, alloc, rules, snapshot);
+        self.look_ahead(tags, alloc, rules, past);
         let stored = self.records.pop_front()?;
         Some((stored, self.right.pop_front()))
     }
 
     /// Looks at the tags of the first records, where nothing is known of them for who stands behind
     /// the chain.
-    fn look_ahead<T: Threads + Sync, V: Watch>(
+    fn look_ahead<T: Threads + Sync, V: Watch, P: Past>(
         &mut self,
         tags: &TagChecks<'_, T, V>,
         alloc: Global,
         rules: &Rules,
-        snapshot: &Snapshot,
+        past: &P,
     )
         requires known { IsKnown rules.now self.old }
         ensures known { IsKnown rules.now self.new }
         // It is known for who stands behind the chain.
-        ensures here { AreRightTags (orgs_behind rules.now snapshot.now) self.new.right.items
+        ensures here { AreRightTags (orgs_kept rules.now (P.kept past.now)) self.new.right.items
             self.new.records.items }
         ensures records { self.new.records.items ≡ self.old.records.items }
     {
-        if self.is_known_behind(snapshot) {
+        if self.is_known_in(past.map()) {
             return;
         }
-        let Ok(value) = standing_value(snapshot) else {
+        let Ok(value) = standing_value(past.map()) else {
             self.right = VecDeque::new(alloc);
             return;
         };
         let (front, _) = self.records.as_slices();
-        let right = tags.right_tags(alloc, rules, snapshot, front);
+        let right = tags.right_tags(alloc, rules, past, front);
         self.right = VecDeque::from_vec(right);
         self.value = value;
     }
 
-    /// Whether something is known for who stands behind a chain.
-    fn is_known_behind(&self, snapshot: &Snapshot) -> bool
-        ensures { result ≡ true → self.now.value ≡ get (plain_after snapshot.now) membership_key }
+    /// Whether something is known for who stands in a state.
+    fn is_known_in(&self, state: &StateMap) -> bool
+        ensures { result ≡ true →
+            self.now.value ≡ get (plain_in state.now.entries) membership_key }
     {
-        !self.right.is_empty() && self.has_value_of(snapshot)
+        !self.right.is_empty() && self.has_value_of(state)
     }
 
-    /// Whether the key of the membership has behind a chain the value that is kept.
-    fn has_value_of(&self, snapshot: &Snapshot) -> bool
-        ensures { result ≡ true → self.now.value ≡ get (plain_after snapshot.now) membership_key }
+    /// Whether the key of the membership has in a state the value that is kept.
+    fn has_value_of(&self, state: &StateMap) -> bool
+        ensures { result ≡ true →
+            self.now.value ≡ get (plain_in state.now.entries) membership_key }
     {
-        match (&self.value, membership_value(snapshot)) {
+        match (&self.value, value_of_membership(state)) {
             (None, None) => true,
             (Some(kept), Some(value)) => kept.as_slice() == value.as_slice(),
             _ => false,

@@ -6,37 +6,39 @@ ghost use Rattle.ledger_setting.specs.Judging.{IsJudged};
 ghost use Rattle.ledger_setting.specs.Rule.{table_of};
 ghost use Rattle.store_replay.specs.Replay.{HasTheFlags, IsPushed};
 ghost use Rattle.endorsement_policy.specs.Judge.{orgs_behind};
-ghost use Rattle.store_replay.specs.Tags.{right_in_record};
+ghost use Rattle.ledger_model.specs.Chain.{Chain};
+ghost use Rattle.store_replay.specs.Tags.{orgs_kept, right_in_record};
+ghost use Rattle.world_state.specs.Kept.{IsKeptOf};
 
 use committer::CommitRefusal;
 use endorsement_policy::Rules;
 use fab_types::{CommittedBlock, Flag};
-use ledger_setting::judge_with;
+use ledger_setting::judge_with_behind;
 use policy_language::OrgSet;
 use std::alloc::Global;
-use world_state::{Judged, Snapshot};
+use world_state::{Judged, Past, Snapshot};
 
-/// What the block of a record is judged to be behind a chain, and whether the record has these
-/// flags. It may be known whose tags in it are right, of those who stand behind the chain. It
-/// refuses as `judge` does.
-pub fn judge_record(
+/// What the block of a record is judged to be behind a chain of which this is kept, and whether the
+/// record has these flags. It may be known whose tags in it are right, of those who stand behind
+/// the chain. It refuses as `judge` does.
+pub fn judge_record<P: Past>(
     alloc: Global,
     rules: &Rules,
-    snapshot: &Snapshot,
+    past: &P,
     stored: &CommittedBlock,
     right: Option<&[OrgSet]>,
 ) -> Result<(Judged, bool), CommitRefusal>
     requires { IfSome right
         (λ orgs. orgs.now
-        ≡ right_in_record (orgs_behind rules.now snapshot.now) stored.now) }
-    ensures judged { IfOk result
-        (λ t. IsJudged (table_of rules.now) snapshot.now stored.now.block t.0) }
-    ensures flags { IfOk result
-        (λ t. HasTheFlags (table_of rules.now) snapshot.now stored.now t.1) }
-    ensures refused { IfErr result
-        (λ cause. IsRefused cause (blocks_of snapshot.now) stored.now.block) }
+        ≡ right_in_record (orgs_kept rules.now (P.kept past.now)) stored.now) }
+    ensures judged { (chain : Chain) → IsKeptOf (P.kept past.now) chain →
+        IfOk result (λ t. IsJudged (table_of rules.now) chain stored.now.block t.0) }
+    ensures flags { (chain : Chain) → IsKeptOf (P.kept past.now) chain →
+        IfOk result (λ t. HasTheFlags (table_of rules.now) chain stored.now t.1) }
+    ensures refused { (chain : Chain) → IsKeptOf (P.kept past.now) chain →
+        IfErr result (λ cause. IsRefused cause (blocks_of chain) stored.now.block) }
 {
-    let judged = judge_with(alloc, rules, snapshot, stored.block(), right)?;
+    let judged = judge_with_behind(alloc, rules, past, stored.block(), right)?;
     let flags: &[Flag] = &judged.flags;
     let is_same = stored.flags() == flags;
     Ok((judged, is_same))

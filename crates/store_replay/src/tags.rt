@@ -1,8 +1,7 @@
 //! Whose tags on the envelopes of records are right, before their blocks are judged.
 
 ghost use Rattle.std.specs.Prelude.{◌≡◌, ◌≤◌, IfOk, length, map};
-ghost use Rattle.endorsement_policy.specs.Judge.{orgs_behind};
-ghost use Rattle.store_replay.specs.Tags.{AreRightTags, right_in_record};
+ghost use Rattle.store_replay.specs.Tags.{AreRightTags, orgs_kept, right_in_record};
 
 use crate::watch::Watch;
 use endorsement_policy::{Rules, Standing, Workers, right_orgs_of_blocks};
@@ -10,8 +9,8 @@ use fab_types::{Block, CommittedBlock};
 use policy_language::OrgSet;
 use std::alloc::{AllocError, Global};
 use std::thread::Threads;
-use wire::{data_hash, next_link};
-use world_state::Snapshot;
+use wire::{data_hash, header_hash};
+use world_state::Past;
 
 /// Records are looked at together until they have so many envelopes.
 const STRETCH: usize = 8_192;
@@ -37,51 +36,49 @@ impl<T: Threads + Sync, V: Watch> TagChecks<'_, T, V> {
     /// organisations that stand behind the chain of which it carries a right tag. The records are
     /// to be put behind the chain. The answer may be empty: then the tags are checked as the first
     /// one's block is judged.
-    pub(crate) fn right_tags(
+    pub(crate) fn right_tags<P: Past>(
         &self,
         alloc: Global,
         rules: &Rules,
-        snapshot: &Snapshot,
+        past: &P,
         records: &[CommittedBlock],
     ) -> Vec<Vec<OrgSet>>
-        ensures { AreRightTags (orgs_behind rules.now snapshot.now) result.items records.now }
+        ensures { AreRightTags (orgs_kept rules.now (P.kept past.now)) result.items records.now }
     {
-        self.watch.reached(snapshot.height());
+        self.watch.reached(past.height() as usize);
         if self.workers.count() == 1 {
             return Vec::new(alloc);
         }
-        right_in_stretch(self.workers, alloc, rules, snapshot, records)
+        right_in_stretch(self.workers, alloc, rules, past, records)
     }
 }
 
 /// What workers find of the first stretch of records. It ends before a record that does not fit, so
 /// that its block is refused before a tag of it is checked; and it is empty where memory is short,
 /// so that a record is refused for want of memory only where one thread would refuse it.
-fn right_in_stretch<T: Threads + Sync>(
+fn right_in_stretch<T: Threads + Sync, P: Past>(
     workers: &Workers<'_, T>,
     alloc: Global,
     rules: &Rules,
-    snapshot: &Snapshot,
+    past: &P,
     records: &[CommittedBlock],
 ) -> Vec<Vec<OrgSet>>
-    ensures { AreRightTags (orgs_behind rules.now snapshot.now) result.items records.now }
+    ensures { AreRightTags (orgs_kept rules.now (P.kept past.now)) result.items records.now }
 {
-    let count = fitting(alloc, snapshot, records);
-    match right_of_all(workers, alloc, rules, snapshot, &records[..count]) {
+    let count = fitting(alloc, past.height(), past.link(), records);
+    match right_of_all(workers, alloc, rules, past, &records[..count]) {
         Ok(right) => right,
         Err(_) => Vec::new(alloc),
     }
 }
 
-/// How many of the first of these records have blocks that fit behind a chain, one after another:
-/// those of one stretch at most. Where memory is short it counts fewer.
-fn fitting(alloc: Global, snapshot: &Snapshot, records: &[CommittedBlock]) -> usize
+/// How many of the first of these records have blocks that fit behind a chain of this height, whose
+/// last header has this hash, one after another: those of one stretch at most. Where memory is
+/// short it counts fewer.
+fn fitting(alloc: Global, height: u32, link: [u8; 32], records: &[CommittedBlock]) -> usize
     ensures { result ≤ length records.now }
 {
-    let mut last = match snapshot.last() {
-        None => None,
-        Some(committed) => Some(committed.block()),
-    };
+    let mut last = (height, link);
     let mut envelopes = 0usize;
     let mut count = 0usize;
     while count < records.len() && envelopes < STRETCH {
@@ -90,7 +87,7 @@ fn fitting(alloc: Global, snapshot: &Snapshot, records: &[CommittedBlock]) -> us
             break;
         }
         envelopes = envelopes.saturating_add(block.envelopes.as_slice().len());
-        last = Some(block);
+        last = (block.header.number.get(), header_hash(&block.header));
         count += 1;
     }
     count
@@ -98,12 +95,9 @@ fn fitting(alloc: Global, snapshot: &Snapshot, records: &[CommittedBlock]) -> us
 
 /// Whether a block has the number after the last one's, and names the hash of its header and that
 /// of its own data. False where memory is short.
-fn is_next(alloc: Global, last: Option<&Block>, block: &Block) -> bool {
-    let number = match last {
-        None => 1,
-        Some(last) => last.header.number.get() + 1,
-    };
-    if block.header.number.get() != number || block.header.previous_hash != next_link(last) {
+fn is_next(alloc: Global, last: (u32, [u8; 32]), block: &Block) -> bool {
+    let (number, link) = last;
+    if block.header.number.get() != number.saturating_add(1) || block.header.previous_hash != link {
         return false;
     }
     match data_hash(alloc, &block.envelopes) {
@@ -114,18 +108,18 @@ fn is_next(alloc: Global, last: Option<&Block>, block: &Block) -> bool {
 
 /// What workers find of each of these records for who stands behind the chain. The error is of
 /// memory.
-fn right_of_all<T: Threads + Sync>(
+fn right_of_all<T: Threads + Sync, P: Past>(
     workers: &Workers<'_, T>,
     alloc: Global,
     rules: &Rules,
-    snapshot: &Snapshot,
+    past: &P,
     records: &[CommittedBlock],
 ) -> Result<Vec<Vec<OrgSet>>, AllocError>
     ensures { IfOk result
         (λ v. map (λ right. right.items) v.items
-        ≡ map (right_in_record (orgs_behind rules.now snapshot.now)) records.now) }
+        ≡ map (right_in_record (orgs_kept rules.now (P.kept past.now))) records.now) }
 {
-    let standing = Standing::of(alloc, rules, snapshot)?;
+    let standing = Standing::in_state(alloc, rules, past.map())?;
     let mut envelopes = Vec::with_capacity(alloc, records.len())?;
     for stored in records {
         envelopes.push(stored.block().envelopes.as_slice())?;
