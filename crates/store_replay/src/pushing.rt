@@ -5,10 +5,9 @@ ghost use Rattle.committer.specs.Fits.{IsRefused, blocks_of};
 ghost use Rattle.ledger_setting.specs.Judging.{IsJudged};
 ghost use Rattle.ledger_setting.specs.Rule.{table_of};
 ghost use Rattle.store_replay.specs.Replay.{HasTheFlags, IsPushed};
-ghost use Rattle.endorsement_policy.specs.Judge.{orgs_behind};
 ghost use Rattle.ledger_model.specs.Chain.{Chain};
 ghost use Rattle.store_replay.specs.Tags.{orgs_kept, right_in_record};
-ghost use Rattle.world_state.specs.Kept.{IsKeptOf};
+ghost use Rattle.world_state.specs.Kept.{IsKeptOf, kept_of};
 
 use committer::CommitRefusal;
 use endorsement_policy::Rules;
@@ -56,7 +55,8 @@ pub fn push(
     right: Option<Vec<OrgSet>>,
 ) -> Result<bool, CommitRefusal>
     requires { IfSome right
-        (λ orgs. orgs.items ≡ right_in_record (orgs_behind rules.now snapshot.old) stored) }
+        (λ orgs. orgs.items
+        ≡ right_in_record (orgs_kept rules.now (kept_of snapshot.old)) stored) }
     ensures pushed { IfOk result
         (λ is_same. IsPushed (table_of rules.now) snapshot.old stored is_same snapshot.new) }
     ensures unchanged { OnErr result (snapshot.new ≡ snapshot.old) }

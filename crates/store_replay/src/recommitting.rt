@@ -8,8 +8,8 @@ ghost use Rattle.ledger_setting.specs.Judging.{IsJudged};
 ghost use Rattle.ledger_setting.specs.Rule.{table_of};
 ghost use Rattle.store_replay.specs.Lawful.{AreLawful, IsNextRefused, IsRecommitRefused, StopsAt};
 ghost use Rattle.store_replay.specs.Replay.{HasTheFlags};
-ghost use Rattle.endorsement_policy.specs.Judge.{orgs_behind};
-ghost use Rattle.store_replay.specs.Tags.{right_in_record};
+ghost use Rattle.store_replay.specs.Tags.{orgs_kept, right_in_record};
+ghost use Rattle.world_state.specs.Kept.{kept_of};
 
 use crate::pending::Pending;
 use crate::pushing::judge_record;
@@ -46,7 +46,7 @@ fn judge_as_stored(
 ) -> Result<Judged, RecommitRefusal>
     requires { IfSome right
         (λ orgs. orgs.now
-        ≡ right_in_record (orgs_behind rules.now snapshot.now) stored.now) }
+        ≡ right_in_record (orgs_kept rules.now (kept_of snapshot.now)) stored.now) }
     ensures judged { IfOk result
         (λ judged. IsJudged (table_of rules.now) snapshot.now stored.now.block judged) }
     ensures flags { OnOk result (HasTheFlags (table_of rules.now) snapshot.now stored.now true) }
@@ -75,7 +75,8 @@ fn recommit_with(
     right: Option<Vec<OrgSet>>,
 ) -> Result<(), RecommitRefusal>
     requires { IfSome right
-        (λ orgs. orgs.items ≡ right_in_record (orgs_behind rules.now snapshot.old) stored) }
+        (λ orgs. orgs.items
+        ≡ right_in_record (orgs_kept rules.now (kept_of snapshot.old)) stored) }
     ensures chain { OnOk result (snapshot.new ≡ snapshot.old ++ stored ∷ []) }
     ensures lawful { OnOk result (AreLawful (table_of rules.now) snapshot.old (stored ∷ [])) }
     ensures unchanged { OnErr result (snapshot.new ≡ snapshot.old) }

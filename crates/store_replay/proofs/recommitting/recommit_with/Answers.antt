@@ -1,6 +1,7 @@
 use Rattle.ledger_setting.specs.Rule.{table_of}
 use Rattle.store_replay.proofs.Pushed.{stands}
-use Rattle.endorsement_policy.specs.Judge.{orgs_behind}
+use Rattle.world_state.specs.Kept.{kept_of}
+use Rattle.store_replay.specs.Tags.{orgs_kept}
 use Rattle.store_replay.proofs.RightTags.{of_lent}
 use Rattle.store_replay.proofs.recommitting.recommit_with.Goals as goal
 
@@ -11,4 +12,4 @@ returns-clause-chain c =
 
 pub judge_as_stored-requires : goal.judge_as_stored-requires
 judge_as_stored-requires c =
-    of_lent (orgs_behind c.args.rules.now c.args.snapshot.now) c.args.stored c.args.right c.as_deref.result c.requires c.as_deref.ensures.value
+    of_lent (orgs_kept c.args.rules.now (kept_of c.args.snapshot.now)) c.args.stored c.args.right c.as_deref.result c.requires c.as_deref.ensures.value
