@@ -51,7 +51,8 @@ impl Places {
         ensures unchanged { OnErr result (self.new ≡ self.old) }
     {
         let end = self.end() + size as u64;
-        self.ends.push(end)
+        self.ends.push(end)?;
+        Ok(())
     }
 
     /// Where the record of a number begins and ends. None where there is none, as of 0.
