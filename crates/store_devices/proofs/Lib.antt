@@ -1,2 +1,3 @@
 mod Pieces
 pub mod Walks
+pub mod Filling

@@ -1,6 +1,6 @@
 //! Reading a record where it lies.
 
-ghost use Rattle.std.specs.Prelude.{◌≡◌, ◌≤◌, ◌+◌, ◌-◌, ◌×◌, true, List, IfErr, IfOk, IfSome, IsOk, OnOk, Some, drop, length, slice_get, take};
+ghost use Rattle.std.specs.Prelude.{◌≡◌, ◌≤◌, ◌<◌, ◌+◌, ◌-◌, ◌^◌, true, List, IfErr, IfOk, IfSome, IsOk, OnOk, Some, drop, length, slice_get, take};
 ghost use Rattle.std.specs.List.{flat_map};
 ghost use Rattle.fab_types.specs.Committed.{Committed};
 ghost use Rattle.block_store.specs.Record.{IsRecord, record_bytes};
@@ -55,17 +55,19 @@ pub fn read_exact_from<D: StoreFile>(
     ensures filled { OnOk result (IfSome (D.contents file.now)
         (λ held. buffer.new ≡ take (length buffer.old) (drop place held))) }
     ensures length { length buffer.new ≡ length buffer.old }
-    ensures known { D.is_known ≡ true → IfSome (D.contents file.now)
+    ensures known { D.is_known ≡ true → place + length buffer.old < 2 ^ 64 →
+        IfSome (D.contents file.now)
         (λ held. place + length buffer.old ≤ length held → IsOk result) }
 {
-    let mut at = 0;
+    let mut at: usize = 0;
     while at < buffer.len() {
         let Some(from) = place.checked_add(at as u64) else {
             return Err(DeviceError);
         };
         match file.read_at(&mut buffer[at..], from) {
-            Ok(count) if count > 0 => at += count,
-            _ => return Err(DeviceError),
+            Ok(0) => return Err(DeviceError),
+            Ok(count) => at += count,
+            Err(_) => return Err(DeviceError),
         }
     }
     Ok(())
