@@ -1,9 +1,9 @@
 -- Why a record is not read where it lies.
-use Rattle.store_devices.specs.declared.placed.PlacedFault.{PlacedFault}
-use Rattle.store_devices.specs.declared.placed.PlacedFault.TheVariants.{Memory, Device, Damaged}
+use Rattle.store_devices.specs.declared.placed.BlockFault.{BlockFault}
+use Rattle.store_devices.specs.declared.placed.BlockFault.TheVariants.{Memory, Device, Damaged}
 
 -- for want of memory
-abbrev pub IsOfMemory : PlacedFault → Type 0
+abbrev pub IsOfMemory : BlockFault → Type 0
 IsOfMemory Memory = Unit {0}
 IsOfMemory Device = ⊥
 IsOfMemory (Damaged number) = ⊥

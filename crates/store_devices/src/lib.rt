@@ -20,7 +20,7 @@ mod store_reader;
 use crate::history::Call;
 use block_store::{CountedRead, CountedWrite, DeviceError};
 pub use history::History;
-pub use placed::{PlacedFault, read_exact_from, read_placed};
+pub use placed::{BlockFault, read_exact_from, read_placed};
 pub use places::Places;
 use std::io::{Read, Write};
 pub use store_file::StoreFile;

@@ -16,7 +16,7 @@ use std::alloc::{AllocError, Global};
 
 /// Why a record is not read where it lies.
 #[derive(Clone, Copy, Debug, Drop, PartialEq, Eq)]
-pub enum PlacedFault {
+pub enum BlockFault {
     /// A growth of memory was refused (9).
     Memory,
     /// A call of the file failed, or the file ends before the record does (703).
@@ -25,23 +25,23 @@ pub enum PlacedFault {
     Damaged(u32),
 }
 
-impl From<AllocError> for PlacedFault {
-    ghost use Rattle.store_devices.specs.declared.placed.PlacedFault.TheVariants.{Memory};
+impl From<AllocError> for BlockFault {
+    ghost use Rattle.store_devices.specs.declared.placed.BlockFault.TheVariants.{Memory};
 
     ghost from_gives = { λ _ f. f ≡ Memory };
 
-    fn from(_error: AllocError) -> PlacedFault {
-        PlacedFault::Memory
+    fn from(_error: AllocError) -> BlockFault {
+        BlockFault::Memory
     }
 }
 
-impl From<DeviceError> for PlacedFault {
-    ghost use Rattle.store_devices.specs.declared.placed.PlacedFault.TheVariants.{Device};
+impl From<DeviceError> for BlockFault {
+    ghost use Rattle.store_devices.specs.declared.placed.BlockFault.TheVariants.{Device};
 
     ghost from_gives = { λ _ f. f ≡ Device };
 
-    fn from(_error: DeviceError) -> PlacedFault {
-        PlacedFault::Device
+    fn from(_error: DeviceError) -> BlockFault {
+        BlockFault::Device
     }
 }
 
@@ -79,7 +79,7 @@ pub fn read_placed<D: StoreFile>(
     file: &D,
     places: &Places,
     number: u32,
-) -> Result<CommittedBlock, PlacedFault>
+) -> Result<CommittedBlock, BlockFault>
     requires { (1 ≤ number) × (number ≤ length places.now) }
     ensures record { IfOk result (IsRecord number) }
     ensures stored { (cs : List Committed) → AreRecords 1 cs → places.now ≡ ends_of cs →
@@ -88,12 +88,12 @@ pub fn read_placed<D: StoreFile>(
         × (D.is_known ≡ true → IfErr result IsOfMemory) }
 {
     let Some((begin, end)) = places.span(number) else {
-        return Err(PlacedFault::Device);
+        return Err(BlockFault::Device);
     };
     let mut bytes = vec![in alloc; 0u8; (end - begin) as usize]?;
     read_exact_from(file, &mut bytes, begin)?;
     match read_record(alloc, number, &bytes)? {
         Some(record) => Ok(record),
-        None => Err(PlacedFault::Damaged(number)),
+        None => Err(BlockFault::Damaged(number)),
     }
 }
