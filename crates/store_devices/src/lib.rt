@@ -3,7 +3,7 @@
 //! [`Counted`] keeps what its calls moved and how many of them failed in a [`History`] that exists in
 //! contracts alone: it takes no memory, and the count has no greatest. [`StoreFile`] is the file of a
 //! store, [`StoreReader`] reads it from its first byte on, and [`read_placed`] a record where it lies
-//! ([`Places`]).
+//! ([`Places`]). [`Blocks`] is a chain of which the blocks are read so.
 #![tactic(auto)]
 
 ghost use Rattle.std.specs.Prelude.{◌≡◌, suc, OnOk, OnErr};
@@ -11,6 +11,7 @@ ghost use Rattle.std.specs.Io.KnownBytes.{Keeps};
 ghost use Rattle.store_devices.specs.History.{cut_back, fresh};
 ghost use Rattle.store_devices.specs.StoreFile.{CutsBack, MayCutBack};
 
+mod blocks;
 mod history;
 mod placed;
 mod places;
@@ -19,6 +20,7 @@ mod store_reader;
 
 use crate::history::Call;
 use block_store::{CountedRead, CountedWrite, DeviceError};
+pub use blocks::Blocks;
 pub use history::History;
 pub use placed::{BlockFault, read_exact_from, read_placed};
 pub use places::Places;
