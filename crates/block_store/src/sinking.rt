@@ -15,13 +15,19 @@ const PIECE: usize = 1_048_576;
 
 /// Who takes the records of a store as they are read.
 pub trait RecordSink {
+    /// What a sink is made with, which no call changes.
+    ghost Context: { Type 0 };
+
+    ghost context: { Self → Self.Context };
+
     /// These records were taken, in their order.
     ghost Took: { Self → List Committed → Type 0 };
 
     /// Takes the next records. The error is of memory.
     fn take(&mut self, records: Vec<CommittedBlock>) -> Result<(), AllocError>
-        ensures { (before : List Committed) → Took self.old before →
-            OnOk result (Took self.new (before ++ records.items)) };
+        ensures took { (before : List Committed) → Took self.old before →
+            OnOk result (Took self.new (before ++ records.items)) }
+        ensures context { OnOk result (context self.new ≡ context self.old) };
 }
 
 /// How a store ends whose records a sink took.
@@ -53,6 +59,7 @@ fn read_by<R: CountedRead, S: RecordSink>(
         × IsLoaded (R.taken reader.old) (R.taken reader.new) cs e.end
         × Holds e.end (R.taken reader.old) (R.taken reader.new) cs e.held
         × LoadsFrom (R.taken reader.old) (R.taken reader.new) (R.remaining reader.old) cs e.end) }
+    ensures context { IfOk result (λ _. S.context sink.new ≡ S.context sink.old) }
     ensures all { IfOk result (λ e. ReadsAll e.end (R.IsAtEnd reader.new)) }
     ensures device { IfOk result
         (λ e. IsTold e.end (R.failures reader.old) (R.failures reader.new)) }
@@ -95,6 +102,7 @@ pub fn read_into<R: CountedRead, S: RecordSink>(
         × IsLoaded (R.taken reader.old) (R.taken reader.new) cs e.end
         × Holds e.end (R.taken reader.old) (R.taken reader.new) cs e.held
         × LoadsFrom (R.taken reader.old) (R.taken reader.new) (R.remaining reader.old) cs e.end) }
+    ensures context { IfOk result (λ _. S.context sink.new ≡ S.context sink.old) }
     // These were all, unless there was damage or the device failed.
     ensures all { IfOk result (λ e. ReadsAll e.end (R.IsAtEnd reader.new)) }
     // The device is blamed exactly where a call of it failed.

@@ -67,7 +67,12 @@ impl<'a, T, V> Recommit<'a, T, V> {
 
 impl<T: Threads + Sync, V: Watch> RecordSink for Recommit<'_, T, V> {
     ghost use Rattle.ledger_setting.specs.Rule.{table_of};
+    ghost use Rattle.endorsement_policy.specs.Listed.{Listed};
     ghost use Rattle.store_replay.specs.Recommitting.{IsRecommitted};
+
+    ghost Context = { Listed };
+
+    ghost context = { λ r. r.rules.now };
 
     ghost Took = { λ r cs. IsRecommitted (table_of r.rules.now) r.chain r.refused cs };
 

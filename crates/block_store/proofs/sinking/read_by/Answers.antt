@@ -1,4 +1,4 @@
-use Rattle.std.proofs.Common.{◌<◌, ◌++◌, length, take, refl, rules, arith}
+use Rattle.std.proofs.Common.{◌<◌, ◌++◌, ◌∙◌, length, take, refl, rules, arith}
 use Rattle.std.proofs.lemmas.List.{length-take}
 use Rattle.block_store.proofs.Reading.{left_falls, more_read, no_more_read, all_read, device_failed, holds_at_end, failed_holds, damage_holds_nothing}
 use Rattle.block_store.specs.declared.end.End.TheVariants.{DeviceFailed}
@@ -59,7 +59,7 @@ returns-then-is_damaged-clause-took g c =
     let took = took_more (taken c.args.reader.now) (taken c.pieces.reader) (taken c.read.new.self) piece (left c.args.reader.now) (left c.pieces.reader)
     (left c.read.new.self) inv.took c.in-Ok.ensures.once.1 c.in-Ok.ensures.known.0 in (
       all,
-      c.in_ok-take-in-Ok.ensures inv.cs inv.took_in,
+      c.in_ok-take-in-Ok.ensures.took inv.cs inv.took_in,
       loaded,
       damage_holds_nothing (taken c.args.reader.now) (taken c.read.new.self) all c.feed.new.self end _ h (search rules)
           c.finish-end-then-is_damaged.ensures (search rules),
@@ -86,7 +86,8 @@ pieces-preserved g c =
     let more = c.in_ok-more-in-Ok.more.items in
     record {
       cs = inv.cs ++ more;
-      took_in = c.in_ok-take-in-Ok.ensures inv.cs inv.took_in;
+      took_in = c.in_ok-take-in-Ok.ensures.took inv.cs inv.took_in;
+      context = c.in_ok-take-in-Ok.ensures.context ∙ inv.context;
       taken = more_read (taken c.args.reader.now) (taken c.pieces.reader) (taken c.read.new.self) piece inv.cs more
           (inv.cs ++ more) c.pieces.records c.feed.new.self inv.taken inv.goes_on c.in-Ok.ensures.once.1 fed refl;
       took = took_more (taken c.args.reader.now) (taken c.pieces.reader) (taken c.read.new.self) piece (left c.args.reader.now) (left c.pieces.reader)

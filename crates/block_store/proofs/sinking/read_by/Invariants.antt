@@ -8,6 +8,7 @@ abbrev pub invariant-pieces : goal.invariant-pieces
 invariant-pieces g l = record {
   cs : List Committed;
   took_in : g.S.RecordSink.Took l.sink cs;
+  context : g.S.RecordSink.context l.sink ≡ g.S.RecordSink.context l.fn.sink;
   taken : HasRead (g.R.CountedRead.taken l.fn.reader) (g.R.CountedRead.taken l.reader) cs l.records;
   took : Took (g.R.CountedRead.taken l.fn.reader) (g.R.CountedRead.taken l.reader) (g.R.CountedRead.remaining l.fn.reader) (g.R.CountedRead.remaining l.reader);
   failures : g.R.CountedRead.failures l.reader ≡ g.R.CountedRead.failures l.fn.reader;
