@@ -25,6 +25,7 @@ pub trait RecordSink {
 
     /// Takes the next records. The error is of memory.
     fn take(&mut self, records: Vec<CommittedBlock>) -> Result<(), AllocError>
+        requires { (before : List Committed) × Took self.old before }
         ensures took { (before : List Committed) → Took self.old before →
             OnOk result (Took self.new (before ++ records.items)) }
         ensures context { OnOk result (context self.new ≡ context self.old) };

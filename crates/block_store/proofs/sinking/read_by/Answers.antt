@@ -66,6 +66,9 @@ returns-then-is_damaged-clause-took g c =
       store_of (taken c.args.reader.now) (taken c.read.new.self) (left c.args.reader.now) (left c.read.new.self) all end took loaded (search rules),
     )
 
+pub take-requires : goal.take-requires
+take-requires g c = (c.pieces.invariant.cs, c.pieces.invariant.took_in)
+
 pub pieces-smaller : goal.pieces-smaller
 pieces-smaller g c =
     let piece = take c.in-Ok.count c.read.new.buffer in
