@@ -33,9 +33,11 @@ pub fn read_record(
 
 /// How many bytes the record of a block with its flags has: fewer than 526,954.
 pub fn record_size(committed: &CommittedBlock) -> usize
-    requires { IsBlock committed.now.block }
-    ensures value { result ≡ length (record_bytes committed.now) }
+    ensures value { IsBlock committed.now.block →
+        result ≡ length (record_bytes committed.now) }
     ensures limits { result ≤ 526954 }
 {
-    4 + committed.block().size() + committed.flags().len() + 32
+    let block = committed.block();
+    let _flags = committed.flags();
+    4 + block.size() + block.envelopes.as_slice().len() + 32
 }

@@ -6,5 +6,8 @@ use Rattle.block_store.proofs.one_record.record_size.Goals as goal
 
 pub returns-clause-value : goal.returns-clause-value
 returns-clause-value c =
-    let size : c.size.result ≡ block_size c.args.committed.now.block = c.size.ensures.value ∙ ap (λ (b : Block). block_size b) c.block.ensures in
-    ap₂ (λ (m n : ℕ). 4 + m + n + 32) size (ap length c.flags.ensures.value) ∙ sym (record_length c.args.committed.now c.requires)
+    let own = c.args.committed.now in
+    let size : c.size.result ≡ block_size own.block = c.size.ensures.value ∙ ap (λ (b : Block). block_size b) c.block-block.ensures in
+    let envelopes = c.as_slice.ensures.value ∙ ap (λ (b : Block). b.envelopes) c.block-block.ensures in
+    let count = ap length envelopes ∙ sym c.flags-flags.ensures.one_each in
+    λ within. ap₂ (λ (m n : ℕ). 4 + m + n + 32) size count ∙ sym (record_length own within)
