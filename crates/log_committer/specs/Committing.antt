@@ -9,6 +9,7 @@ use Rattle.ledger_model.specs.Judged.{BlockRule, judge_onto}
 use Rattle.endorsement_policy.specs.Endorsed.{Listed}
 use Rattle.committer.specs.Fits.{Fits, IsRefused, blocks_of}
 use Rattle.committer.specs.declared.refusal.CommitRefusal.TheVariants.{Memory}
+use Rattle.kept_state.specs.Keeping.{chain_of}
 use Rattle.log_committer.specs.declared.receiving.Committer.{Committer}
 use Rattle.log_committer.specs.declared.receiving.Received.{Received}
 use Rattle.log_committer.specs.declared.receiving.Received.TheVariants as received
@@ -17,7 +18,7 @@ use Rattle.log_committer.specs.declared.refusal.ReceiveRefusal.TheVariants.{Fork
 
 -- the blocks that a committer has, with their flags
 abbrev pub committed_chain : Committer → Chain
-committed_chain c = c.snapshot
+committed_chain c = chain_of c.chain
 
 -- the rules by which it commits
 abbrev pub rules_of : Committer → Listed
@@ -51,6 +52,15 @@ IsKnown chain block = own_hash chain block.header.number ≡ Some (header_hash b
 -- the chain has another block of this number
 abbrev pub IsForked : Chain → Block → Type 0
 IsForked chain block = (own : Bytes) × (own_hash chain block.header.number ≡ Some own) × (own ≢ header_hash block)
+
+-- what a block came to, by the block that joined the chain
+abbrev pub received_of : Option Committed → Received
+received_of None = received.Known
+received_of (Some c) = received.Committed
+
+abbrev pub received_by : Result (Option Committed) ReceiveRefusal → Result Received ReceiveRefusal
+received_by (Ok joined) = Ok (received_of joined)
+received_by (Err refusal) = Err refusal
 
 -- What a block comes to. It is committed; or it stands for the chain's block of its number, and is known or forked; or it is above the chain and does
 -- not fit. The chain is as it was, unless the block is committed

@@ -5,11 +5,9 @@
 #![tactic(auto)]
 
 mod laws;
-mod lookup;
 mod receiving;
 mod refusal;
 
 pub use laws::peers_agree;
-pub use lookup::block_at;
 pub use receiving::{Committer, Received};
 pub use refusal::ReceiveRefusal;

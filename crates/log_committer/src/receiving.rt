@@ -1,21 +1,26 @@
 //! The chain of a peer that receives the blocks of a log.
 
-ghost use Rattle.std.specs.Prelude.{◌≡◌, ◌<◌, ◌-◌, IfNone, length, option_map, slice_get};
+ghost use Rattle.std.specs.Prelude.{◌≡◌, ◌≢◌, ◌<◌, ◌++◌, IfErr, IfNone, IfOk, MatchResult, OnOk, length};
+ghost use Rattle.std.specs.Option.{option_to_list};
 ghost use Rattle.std.specs.Arc.{arc_value};
+ghost use Rattle.committer.specs.Fits.{Fits, blocks_of};
+ghost use Rattle.ledger_setting.specs.Judging.{next_by};
 ghost use Rattle.ledger_setting.specs.Rule.{table_of};
-ghost use Rattle.log_committer.specs.Committing.{block_at, committed_chain, own_hash};
+ghost use Rattle.kept_state.specs.Keeping.{IsKept, chain_of};
+ghost use Rattle.log_committer.specs.Committing.{committed_chain, own_hash, received_by};
 ghost use Rattle.log_committer.specs.Committing.{rules_of, Receives};
+ghost use Rattle.log_committer.specs.declared.refusal.ReceiveRefusal.TheVariants.{Unfit};
+ghost use Rattle.committer.specs.declared.refusal.CommitRefusal.TheVariants.{Memory};
 
-use crate::lookup::block_at;
 use crate::refusal::ReceiveRefusal;
 use endorsement_policy::{Rules, Workers};
 use fab_types::{Block, CommittedBlock, Header};
-use ledger_setting::commit_by_workers;
+use kept_state::KeptChain;
+use ledger_setting::judge_behind_by_workers;
 use std::alloc::Global;
 use std::sync::Arc;
 use std::thread::Threads;
 use wire::header_hash;
-use world_state::Snapshot;
 
 /// What became of a block that was received.
 #[derive(Clone, Copy, Debug, Drop, PartialEq, Eq)]
@@ -34,44 +39,51 @@ pub enum Received {
 #[derive(Drop)]
 pub struct Committer {
     rules: Arc<Rules>,
-    snapshot: Snapshot,
+    chain: KeptChain,
     alloc: Global,
 }
 
 impl Committer {
-    /// A committer behind the blocks of a snapshot. It takes no memory.
-    pub fn new(alloc: Global, rules: Arc<Rules>, snapshot: Snapshot) -> Committer
-        ensures chain { committed_chain result ≡ snapshot }
+    /// A committer behind the blocks of a chain. It takes no memory.
+    pub fn new(alloc: Global, rules: Arc<Rules>, chain: KeptChain) -> Committer
+        ensures chain { result.chain ≡ chain }
         ensures rules { rules_of result ≡ arc_value rules }
     {
         Committer {
             rules,
-            snapshot,
+            chain,
             alloc,
         }
     }
 
-    /// Takes the next block of the log, or one that the chain has.
+    /// Takes the next block of the log, or one that the chain has, and hands out the block that
+    /// joins the chain, with its flags. None where the chain has it.
     ///
     /// A block whose number is not above the height is compared with the chain's block of that
     /// number: it is known where their headers have the same hash, and else refused (602). Any
-    /// other block is committed, or refused as `commit` refuses: where the chain is full
+    /// other block is committed, or refused: where the chain is full
     /// (604), where the block has not the next number (601), names another hash than that of the
     /// last header (602) or says another hash of its data (603), and for want of memory (9), behind
-    /// the first three tests alone. Only a block that is committed changes the chain. Its tags are
-    /// checked by workers at once: the answer is the same for every number of them.
+    /// the first three tests alone. Only a block that is committed changes the chain; behind want of
+    /// memory nothing is kept of it any more. Its tags are checked by workers at once: the answer is
+    /// the same for every number of them.
     pub fn receive<T: Threads + Sync>(
         &mut self,
         workers: &Workers<'_, T>,
         block: Block,
-    ) -> Result<Received, ReceiveRefusal>
+    ) -> Result<Option<CommittedBlock>, ReceiveRefusal>
+        requires kept { IsKept self.old.chain }
+        ensures kept { MatchResult result (λ _. IsKept self.new.chain)
+            (λ r. r ≢ Unfit Memory → IsKept self.new.chain) }
         ensures received { Receives (table_of (rules_of self.old)) (committed_chain self.old) block
-            result (committed_chain self.new) }
+            (received_by result) (committed_chain self.new) }
+        ensures joined { IfOk result (λ joined.
+            committed_chain self.new ≡ committed_chain self.old ++ option_to_list joined) }
         ensures same { rules_of self.new ≡ rules_of self.old }
     {
-        match own_hash(&self.snapshot, &block.header) {
-            None => self.commit(workers, block),
-            Some(own) if own == header_hash(&block.header) => Ok(Received::Known),
+        match own_hash(&self.chain, &block.header) {
+            None => Ok(Some(self.commit(workers, block)?)),
+            Some(own) if own == header_hash(&block.header) => Ok(None),
             Some(_) => Err(ReceiveRefusal::Forked(block.header.number)),
         }
     }
@@ -81,48 +93,40 @@ impl Committer {
         &mut self,
         workers: &Workers<'_, T>,
         block: Block,
-    ) -> Result<Received, ReceiveRefusal>
+    ) -> Result<CommittedBlock, ReceiveRefusal>
+        requires kept { IsKept self.old.chain }
         requires above { length (committed_chain self.old) < block.header.number }
-        ensures received { Receives (table_of (rules_of self.old)) (committed_chain self.old) block
-            result (committed_chain self.new) }
+        ensures kept { MatchResult result (λ _. IsKept self.new.chain)
+            (λ r. r ≢ Unfit Memory → IsKept self.new.chain) }
+        ensures fits { OnOk result (Fits (blocks_of (committed_chain self.old)) block) }
+        ensures made { IfOk result
+            (λ c. c ≡ next_by (table_of (rules_of self.old)) (committed_chain self.old) block) }
+        ensures extended { IfOk result
+            (λ c. committed_chain self.new ≡ committed_chain self.old ++ c ∷ []) }
+        ensures refused { IfErr result
+            (λ r. Receives (table_of (rules_of self.old)) (committed_chain self.old) block (Err r)
+            (committed_chain self.new)) }
         ensures same { rules_of self.new ≡ rules_of self.old }
     {
-        commit_by_workers(workers, self.alloc, &self.rules, &mut self.snapshot, block)?;
-        Ok(Received::Committed)
+        let judged =
+            judge_behind_by_workers(workers, self.alloc, &self.rules, &self.chain, &block)?;
+        Ok(self.chain.extend(self.alloc, block, judged)?)
     }
 
-    /// Its blocks with their flags, and the state after them. It takes no memory.
-    pub fn snapshot(&self) -> &Snapshot
-        ensures { result.now ≡ committed_chain self.now }
+    /// Its chain, of which a state is kept. It takes no memory.
+    pub fn chain(&self) -> &KeptChain
+        ensures { result.now ≡ self.now.chain }
     {
-        &self.snapshot
-    }
-
-    /// The block of this number with its flags. None where the chain has none, as of 0. It takes no
-    /// memory.
-    pub fn block(&self, number: u32) -> Option<&CommittedBlock>
-        ensures { option_map (λ c. c.now) result ≡ block_at (committed_chain self.now) number }
-    {
-        block_at(&self.snapshot, number)
-    }
-
-    /// The last block with its flags. None where there is no block. It takes no memory.
-    pub fn newest(&self) -> Option<&CommittedBlock>
-        ensures { option_map (λ c. c.now) result
-            ≡ slice_get (committed_chain self.now) (length (committed_chain self.now) - 1) }
-    {
-        self.snapshot.last()
+        &self.chain
     }
 }
 
 /// The hash of the header that a chain has at the number of this one. None where that is above the
 /// height. It takes no memory.
-fn own_hash(snapshot: &Snapshot, header: &Header) -> Option<[u8; 32]>
-    ensures hash { result ≡ own_hash snapshot.now header.now.number }
-    ensures above { IfNone result (length snapshot.now < header.now.number) }
+fn own_hash(chain: &KeptChain, header: &Header) -> Option<[u8; 32]>
+    requires kept { IsKept chain.now }
+    ensures hash { result ≡ own_hash (chain_of chain.now) header.now.number }
+    ensures above { IfNone result (length (chain_of chain.now) < header.now.number) }
 {
-    match snapshot.blocks().get(header.number.get() as usize - 1) {
-        None => None,
-        Some(own) => Some(header_hash(&own.block().header)),
-    }
+    chain.hash(header.number.get())
 }

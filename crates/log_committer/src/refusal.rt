@@ -6,6 +6,7 @@ ghost use Rattle.log_committer.specs.declared.refusal.ReceiveRefusal.TheVariants
 
 use committer::CommitRefusal;
 use fab_types::BlockNumber;
+use std::alloc::AllocError;
 use std::error::Error;
 use std::fmt::{self, Display, Formatter, Write};
 
@@ -47,6 +48,16 @@ impl Display for ReceiveRefusal {
 }
 
 impl Error for ReceiveRefusal {}
+
+impl From<AllocError> for ReceiveRefusal {
+    ghost use Rattle.committer.specs.declared.refusal.CommitRefusal.TheVariants.{Memory};
+
+    ghost from_gives = { λ _ r. r ≡ Unfit Memory };
+
+    fn from(_error: AllocError) -> ReceiveRefusal {
+        ReceiveRefusal::Unfit(CommitRefusal::Memory)
+    }
+}
 
 impl From<CommitRefusal> for ReceiveRefusal {
     ghost from_gives = { λ cause r. r ≡ Unfit cause };

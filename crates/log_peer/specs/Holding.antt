@@ -1,5 +1,5 @@
 -- What the file of a store holds, where that is known.
-use Rattle.std.specs.Prelude.{◌≡◌, ℕ, List, ◌++◌, Option, Some, IfSome}
+use Rattle.std.specs.Prelude.{◌≡◌, ℕ, Bool, true, List, ◌++◌, Option, Some, IfSome}
 use Rattle.std.specs.List.{flat_map}
 use Rattle.std.specs.Io.KnownBytes.{Appends}
 use Rattle.ledger_model.specs.Chain.{Chain}
@@ -11,6 +11,10 @@ use Rattle.log_peer.specs.declared.refusal.StoreRefusal.TheVariants.{Memory, Fil
 -- the records of a chain and nothing else
 abbrev pub HoldsRecords : Option (List ℕ) → Chain → Type 0
 HoldsRecords known chain = known ≡ Some (flat_map record_bytes chain)
+
+-- so it is where it is known what each file of the type holds
+abbrev pub HoldsIfKnown : (is_known : Bool) → Option (List ℕ) → Chain → Type 0
+HoldsIfKnown is_known known chain = is_known ≡ true → HoldsRecords known chain
 
 -- the whole records that it held stand at its front
 abbrev pub KeepsRecords : (before after : Option (List ℕ)) → Type 0

@@ -1,10 +1,10 @@
 -- A peer of a log: what is told of a line, and why a line is not read.
-use Rattle.std.specs.Prelude.{◌≡◌, List, [], Option, Some, None}
+use Rattle.std.specs.Prelude.{◌≡◌, ℕ, List, [], Option, Some, None, IfSome, IsSome}
 use Rattle.std.specs.List.{flat_map, AllZip}
 use Rattle.std.specs.Option.{option_to_list}
 use Rattle.fab_types.specs.declared.block.Block.{Block}
 use Rattle.endorsement_policy.specs.Endorsed.{Listed}
-use Rattle.ledger_model.specs.Chain.{Bytes, Chain}
+use Rattle.ledger_model.specs.Chain.{Bytes, Chain, Committed}
 use Rattle.ledger_model.specs.Judged.{BlockRule}
 use Rattle.ledger_setting.specs.Limits.{limits_of}
 use Rattle.ledger_setting.specs.declared.genesis.Genesis.{Genesis}
@@ -15,7 +15,9 @@ use Rattle.log_orderer.specs.declared.batch.LogBatch.{LogBatch}
 use Rattle.log_orderer.specs.declared.replica.LineReport.{LineReport}
 use Rattle.log_orderer.specs.declared.replica.LineReport.TheVariants as line
 use Rattle.log_committer.specs.Peering.{AreCutShort, HasEach, Held, IsRefusedFor}
+use Rattle.log_committer.specs.Committing.{block_at}
 use Rattle.log_committer.specs.declared.receiving.Received.{Received}
+use Rattle.log_committer.specs.declared.receiving.Received.TheVariants as received
 use Rattle.log_peer.specs.Storing.{IsStored, file_of as chain_file, rules_of as chain_rules, stored_chain}
 use Rattle.log_peer.specs.declared.peering.LogPeer.{LogPeer}
 use Rattle.log_peer.specs.declared.peering.PeerBatch.{PeerBatch}
@@ -33,9 +35,29 @@ IsOfBlock (Some block) (Some received) = Unit {0}
 IsOfBlock None (Some received) = ⊥
 IsOfBlock (Some block) None = ⊥
 
+-- a block joined the chain exactly where one was committed
+abbrev pub AreJoined : Option Received → Option Committed → Type 0
+AreJoined None joined = joined ≡ None
+AreJoined (Some received.Known) joined = joined ≡ None
+AreJoined (Some received.Committed) joined = IsSome joined
+
 -- a batch, with what its block came to in the block's place
 abbrev pub IsBatchOf : LogBatch → PeerBatch → Type 0
-IsBatchOf batch told = (told.report ≡ batch.report) × (told.aborted ≡ batch.aborted) × IsOfBlock batch.block told.received
+IsBatchOf batch told =
+    (told.report ≡ batch.report) × (told.aborted ≡ batch.aborted) × IsOfBlock batch.block told.received × AreJoined told.received told.joined
+
+-- a block that joined the chain stands there at the number
+abbrev pub IsJoinedAt : Chain → Option ℕ → Option Committed → Type 0
+IsJoinedAt chain number joined = IfSome joined (λ c. IfSome number (λ n. block_at chain n ≡ Some c))
+
+abbrev pub IsJoinedIn : Chain → PeerBatch → Type 0
+IsJoinedIn chain told = IsJoinedAt chain told.report.block told.joined
+
+-- the batches that are told
+abbrev pub batches_in : PeerReport → List PeerBatch
+batches_in (peer.Accepted id batches) = batches
+batches_in (peer.Ticked batch) = option_to_list batch
+batches_in (peer.Skipped skip) = []
 
 -- what the blocks of batches came to, in turn
 abbrev pub told_of : List PeerBatch → List Received

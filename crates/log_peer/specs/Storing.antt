@@ -14,6 +14,7 @@ use Rattle.store_replay.specs.Lawful.{IsRecommitRefused}
 use Rattle.log_committer.specs.Committing.{Receives, committed_chain, rules_of as committer_rules}
 use Rattle.log_peer.specs.declared.refusal.StoreRefusal.{StoreRefusal}
 use Rattle.log_peer.specs.declared.refusal.StoreRefusal.TheVariants.{Memory, File, Damaged, Stored, Received}
+use Rattle.log_peer.specs.Opening.{IsChainOf}
 use Rattle.log_peer.specs.declared.storing.StoredChain.{StoredChain}
 
 -- a call of the file failed exactly where the answer says so
@@ -80,9 +81,11 @@ module _ {D : Type 0} where
   abbrev pub disk_bytes : StoredChain D → List ℕ
   disk_bytes c = c.file.history.synced
 
-  -- the file has the records of the chain and nothing else, and all of it is on the disk
-  abbrev pub IsStored : StoredChain D → Type 0
-  IsStored c = (file_bytes c ≡ flat_map record_bytes (stored_chain c)) × (disk_bytes c ≡ file_bytes c)
+  -- the file has the records of the chain and nothing else, all of it is on the disk, and it is known where each record ends
+  pub record IsStored (c : StoredChain D) : Type 0 where
+    pub file : file_bytes c ≡ flat_map record_bytes (stored_chain c)
+    pub disk : disk_bytes c ≡ file_bytes c
+    pub chain : IsChainOf c.committer.chain c.places (stored_chain c)
 
   -- a refused block leaves all as it was; behind want of memory or a failed call nothing is said
   abbrev pub IsReceiveRefused : StoreRefusal → StoredChain D → Block → StoredChain D → Type 0

@@ -1,27 +1,31 @@
 //! A peer of a log: what cuts the log's blocks, and the chain of its store.
 
 ghost use Rattle.std.specs.Prelude.{◌≡◌, ◌↔◌, [], IfErr, IfOk, IfSome, IsTrue, MatchResult, OnOk, Some};
-ghost use Rattle.std.specs.Prelude.{length, option_map};
-ghost use Rattle.std.specs.List.{AllZip};
+ghost use Rattle.std.specs.Prelude.{length};
+ghost use Rattle.std.specs.List.{AllByRecursion, AllZip};
 ghost use Rattle.std.specs.Option.{option_to_list};
 ghost use Rattle.std.specs.Arc.{arc_value};
 ghost use Rattle.ledger_setting.specs.Rule.{table_of};
 ghost use Rattle.log_orderer.specs.Handed.{blocks_of};
 ghost use Rattle.orderer.specs.Headers.{hash_at};
 ghost use Rattle.log_orderer.specs.declared.replica.LineReport.{LineReport};
-ghost use Rattle.log_committer.specs.Committing.{ReceivesAll, block_at};
+ghost use Rattle.orderer.specs.Making.{number_in};
+ghost use Rattle.kept_state.specs.Keeping.{IsKept, chain_of};
+ghost use Rattle.log_committer.specs.Committing.{ReceivesAll, own_hash};
 ghost use Rattle.log_committer.specs.Peering.{ReadsLine};
 ghost use Rattle.store_replay.specs.Lawful.{AreLawful};
 ghost use Rattle.log_peer.specs.Holding.{Grows, HoldsRecords, IsUntouched, KeepsRecords};
 ghost use Rattle.log_peer.specs.Storing.{IsBlamed, IsOpened, IsOpenRefused, IsStored};
 ghost use Rattle.log_peer.specs.Storing.{file_of as chain_file, rules_of as chain_rules, stored_chain};
-ghost use Rattle.log_peer.specs.Peering.{AreNotReceived, IsBatchOf, IsNotRead, IsOfBlock, IsPeer, IsReportOf};
+ghost use Rattle.log_peer.specs.Peering.{AreJoined, AreNotReceived, IsBatchOf, IsJoinedAt, IsJoinedIn, IsNotRead};
+ghost use Rattle.log_peer.specs.Peering.{IsOfBlock, IsPeer, IsReportOf, batches_in};
 ghost use Rattle.log_peer.specs.Peering.{file_of, fresh, held_by, rules_of, told_by, told_of};
 
 use crate::refusal::{StoreRefusal, Unopened};
 use crate::storing::StoredChain;
 use endorsement_policy::Workers;
 use fab_types::{Block, CommittedBlock};
+use kept_state::KeptChain;
 use ledger_setting::Genesis;
 use log_committer::Received;
 use log_orderer::{LineReport, LogBatch, Replica, Skip};
@@ -31,7 +35,6 @@ use std::alloc::Global;
 use std::thread::Threads;
 use store_devices::StoreFile;
 use store_replay::{TagChecks, Watch};
-use world_state::Snapshot;
 
 /// A batch that a line of the log ended, and what became of its block.
 #[derive(Drop)]
@@ -42,6 +45,8 @@ pub struct PeerBatch {
     pub aborted: Seq<[u8; 32]>,
     /// What became of its block. None where nothing survived.
     pub received: Option<Received>,
+    /// The block that joined the chain, with its flags. None where none did.
+    pub joined: Option<CommittedBlock>,
 }
 
 /// What became of a line of the log.
@@ -135,6 +140,9 @@ impl<D: StoreFile> LogPeer<D> {
         ensures read { IfOk result (λ told. (report : LineReport) × IsReportOf report told
             × ReadsLine (table_of (rules_of self.old)) (held_by self.old) text.now report
             (told_by told) (held_by self.new)) }
+        // A block that joined is the chain's of the number that is told.
+        ensures joined { IfOk result
+            (λ told. AllByRecursion (IsJoinedIn (held_by self.new).chain) (batches_in told)) }
         ensures refused { IfErr result (IsNotRead (held_by self.old) text.now) }
         // The file is blamed exactly where a call of it failed.
         ensures device { IsBlamed result self.old.chain.file.history.failures
@@ -167,18 +175,27 @@ impl<D: StoreFile> LogPeer<D> {
         }
     }
 
-    /// The blocks of the store with their flags, and the state after them. It takes no memory.
-    pub fn snapshot(&self) -> &Snapshot
-        ensures { result.now ≡ (held_by self.now).chain }
+    /// Its chain, of which a state is kept. It takes no memory.
+    pub fn chain(&self) -> &KeptChain
+        ensures chain { chain_of result.now ≡ (held_by self.now).chain }
+        ensures kept { IsPeer self.now → IsKept result.now }
     {
-        self.chain.snapshot()
+        self.chain.chain()
     }
 
-    /// The block of this number with its flags. None where the chain has none, as of 0.
-    pub fn block(&self, number: u32) -> Option<&CommittedBlock>
-        ensures { option_map (λ c. c.now) result ≡ block_at (held_by self.now).chain number }
+    /// The chain of the store, by which its blocks are read. It takes no memory.
+    pub fn blocks(&self) -> &StoredChain<D>
+        ensures { result.now ≡ self.now.chain }
     {
-        self.chain.block(number)
+        &self.chain
+    }
+
+    /// The hash of the header that the chain has at a number. None where it has none, as of 0.
+    pub fn hash(&self, number: u32) -> Option<[u8; 32]>
+        requires stored { IsPeer self.now }
+        ensures { result ≡ own_hash (held_by self.now).chain number }
+    {
+        self.chain.chain().hash(number)
     }
 
     /// How many envelopes wait for their batch.
@@ -217,6 +234,10 @@ fn receive_each<D: StoreFile, T: Threads + Sync>(
     ensures received { IfOk result
         (λ told. ReceivesAll (table_of (chain_rules chain.old)) (stored_chain chain.old)
         (blocks_of batches.items) (told_of told.items) (stored_chain chain.new)) }
+    ensures joined {
+        AllByRecursion (λ batch. batch.report.block ≡ number_in batch.block) batches.items →
+        IfOk result
+        (λ told. AllByRecursion (IsJoinedIn (stored_chain chain.new)) told.items) }
     ensures refused { IfErr result
         (AreNotReceived (table_of (chain_rules chain.old)) (stored_chain chain.old)
         (blocks_of batches.items)) }
@@ -247,6 +268,8 @@ fn receive_batch<D: StoreFile, T: Threads + Sync>(
     ensures received { IfOk result
         (λ told. ReceivesAll (table_of (chain_rules chain.old)) (stored_chain chain.old)
         (option_to_list batch.block) (option_to_list told.received) (stored_chain chain.new)) }
+    ensures joined { batch.report.block ≡ number_in batch.block →
+        IfOk result (IsJoinedIn (stored_chain chain.new)) }
     ensures refused { IfErr result
         (AreNotReceived (table_of (chain_rules chain.old)) (stored_chain chain.old)
         (option_to_list batch.block)) }
@@ -262,26 +285,29 @@ fn receive_batch<D: StoreFile, T: Threads + Sync>(
         block,
         aborted,
     } = batch;
-    let received = receive_made(chain, workers, block)?;
+    let (received, joined) = receive_made(chain, workers, block)?;
     Ok(PeerBatch {
         report,
         aborted,
         received,
+        joined,
     })
 }
 
-/// Receives a block, if there is one.
+/// Receives a block, if there is one: what became of it, and the block that joined the chain.
 fn receive_made<D: StoreFile, T: Threads + Sync>(
     chain: &mut StoredChain<D>,
     workers: &Workers<'_, T>,
     block: Option<Block>,
-) -> Result<Option<Received>, StoreRefusal>
+) -> Result<(Option<Received>, Option<CommittedBlock>), StoreRefusal>
     requires stored { IsStored chain.old }
     ensures stored { OnOk result (IsStored chain.new) }
-    ensures block { IfOk result (IsOfBlock block) }
+    ensures block { IfOk result (λ told. IsOfBlock block told.0 × AreJoined told.0 told.1) }
     ensures received { IfOk result
         (λ told. ReceivesAll (table_of (chain_rules chain.old)) (stored_chain chain.old)
-        (option_to_list block) (option_to_list told) (stored_chain chain.new)) }
+        (option_to_list block) (option_to_list told.0) (stored_chain chain.new)) }
+    ensures joined { IfOk result
+        (λ told. IsJoinedAt (stored_chain chain.new) (number_in block) told.1) }
     ensures refused { IfErr result
         (AreNotReceived (table_of (chain_rules chain.old)) (stored_chain chain.old)
         (option_to_list block)) }
@@ -292,8 +318,11 @@ fn receive_made<D: StoreFile, T: Threads + Sync>(
         OnOk result (HoldsRecords (D.contents (chain_file chain.new)) (stored_chain chain.new)) }
     ensures grows { Grows (D.contents (chain_file chain.old)) (D.contents (chain_file chain.new)) }
 {
-    match block {
-        None => Ok(None),
-        Some(block) => Ok(Some(chain.receive(workers, block)?)),
+    let Some(block) = block else {
+        return Ok((None, None));
+    };
+    match chain.receive(workers, block)? {
+        None => Ok((Some(Received::Known), None)),
+        Some(joined) => Ok((Some(Received::Committed), Some(joined))),
     }
 }

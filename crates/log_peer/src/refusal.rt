@@ -1,9 +1,10 @@
 //! Why a store, or a block for it, is refused.
 
 ghost use Rattle.std.specs.Prelude.{◌≡◌};
-ghost use Rattle.log_peer.specs.declared.refusal.StoreRefusal.TheVariants.{Memory, Received, Stored};
+ghost use Rattle.log_peer.specs.declared.refusal.StoreRefusal.TheVariants.{Memory, Stored};
 
 use block_store::{AppendFault, DeviceError, End};
+use committer::CommitRefusal;
 use log_committer::ReceiveRefusal;
 use std::alloc::AllocError;
 use std::fmt::{self, Display, Formatter};
@@ -12,7 +13,7 @@ use store_replay::RecommitRefusal;
 /// Why a store, or a block for it, is refused.
 #[derive(Clone, Copy, Debug, Drop, PartialEq, Eq)]
 pub enum StoreRefusal {
-    /// A growth of memory was refused as the store was read or written (9).
+    /// A growth of memory was refused (9).
     Memory,
     /// A call of the file failed (703).
     File,
@@ -21,8 +22,7 @@ pub enum StoreRefusal {
     /// A stored block does not fit (601 to 604), has other flags than the table's (711), or is not
     /// committed again for want of memory (9).
     Stored(RecommitRefusal),
-    /// A block of the log is of another log, does not fit (601 to 604), or is not committed for
-    /// want of memory (9).
+    /// A block of the log is of another log, or does not fit (601 to 604).
     Received(ReceiveRefusal),
 }
 
@@ -91,9 +91,14 @@ impl From<RecommitRefusal> for StoreRefusal {
 }
 
 impl From<ReceiveRefusal> for StoreRefusal {
-    ghost from_gives = { λ refusal r. r ≡ Received refusal };
+    ghost use Rattle.log_peer.specs.Refusals.{receive_refusal};
+
+    ghost from_gives = { λ refusal r. r ≡ receive_refusal refusal };
 
     fn from(refusal: ReceiveRefusal) -> StoreRefusal {
-        StoreRefusal::Received(refusal)
+        match refusal {
+            ReceiveRefusal::Unfit(CommitRefusal::Memory) => StoreRefusal::Memory,
+            refusal => StoreRefusal::Received(refusal),
+        }
     }
 }

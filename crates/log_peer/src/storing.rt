@@ -1,32 +1,34 @@
 //! A chain and the file that it is stored in.
 
-ghost use Rattle.std.specs.Prelude.{◌≡◌, ℕ, List, [], ◌∷◌, ◌++◌, IfErr, IfOk, IfSome, MatchResult, Ok, OnErr, OnOk, option_map};
+ghost use Rattle.std.specs.Prelude.{◌≡◌, suc, true, [], ◌∷◌, ◌++◌, IfErr, IfOk, IfSome, MatchResult, Ok, OnErr, OnOk, length};
+ghost use Rattle.std.specs.Option.{option_to_list};
 ghost use Rattle.std.specs.Io.KnownBytes.{Appends};
 ghost use Rattle.std.specs.Arc.{arc_value};
-ghost use Rattle.fab_types.specs.Committed.{Committed};
 ghost use Rattle.ledger_model.specs.Chain.{Chain};
 ghost use Rattle.ledger_setting.specs.Rule.{table_of};
-ghost use Rattle.block_store.specs.Loading.{Holds, IsBehind};
-ghost use Rattle.block_store.specs.Record.{record_bytes};
+ghost use Rattle.block_store.specs.Record.{IsRecord, record_bytes};
 ghost use Rattle.store_devices.specs.History.{cut_back};
+ghost use Rattle.store_devices.specs.Places.{ends_of};
 ghost use Rattle.store_devices.specs.StoreFile.{CutsBack, MayCutBack};
 ghost use Rattle.store_replay.specs.Lawful.{AreLawful};
-ghost use Rattle.log_committer.specs.Committing.{Receives, block_at, committed_chain};
+ghost use Rattle.log_committer.specs.Committing.{Receives, received_of};
 ghost use Rattle.log_peer.specs.Holding.{Grows, HoldsRecords, IsUntouched, KeepsRecords};
 ghost use Rattle.log_peer.specs.Storing.{IsBlamed, IsOfMachine, IsOpened, IsOpenRefused, IsReceiveRefused, IsStored};
-ghost use Rattle.log_peer.specs.Storing.{cut_of, file_of, rules_of, stored_chain};
+ghost use Rattle.log_peer.specs.Storing.{file_of, rules_of, stored_chain};
 
+use crate::opening::{push_size, recommit_all};
 use crate::refusal::{StoreRefusal, Unopened};
-use block_store::{CountedRead, DeviceError, End, Loaded, append, load};
+use block_store::{DeviceError, append};
 use endorsement_policy::{Rules, Workers};
 use fab_types::{Block, CommittedBlock};
-use log_committer::{Committer, Received};
+use kept_state::KeptChain;
+use log_committer::Committer;
 use std::alloc::Global;
 use std::sync::Arc;
 use std::thread::Threads;
-use store_devices::{Counted, StoreFile, StoreReader};
-use store_replay::{TagChecks, Watch, recommit};
-use world_state::Snapshot;
+use store_devices::{BlockFault, Blocks, Counted, Places, StoreFile, StoreReader, read_placed};
+use store_replay::{TagChecks, Watch};
+use wire::header_hash;
 
 /// A chain to which the blocks of a log are committed, and the file that it is stored in.
 ///
@@ -37,6 +39,7 @@ use world_state::Snapshot;
 pub struct StoredChain<D: Drop> {
     committer: Committer,
     file: Counted<D>,
+    places: Places,
     alloc: Global,
 }
 
@@ -76,14 +79,15 @@ impl<D: StoreFile> StoredChain<D> {
         let read = recommit_all(tags, alloc, &rules, &mut reader);
         let history = reader.into_history();
         match read {
-            Ok((snapshot, held)) => {
+            Ok((chain, places, held)) => {
                 let mut file = Counted::with_history(file, history);
                 match cut_off(&mut file, held) {
                     Ok(()) => {
-                        let committer = Committer::new(alloc, rules, snapshot);
+                        let committer = Committer::new(alloc, rules, chain);
                         let chain = StoredChain {
                             committer,
                             file,
+                            places,
                             alloc,
                         };
                         Ok((chain, held))
@@ -98,8 +102,9 @@ impl<D: StoreFile> StoredChain<D> {
         }
     }
 
-    /// Takes the next block of the log, or one that the chain has. A block that joins the chain is
-    /// on the disk when this returns.
+    /// Takes the next block of the log, or one that the chain has, and hands out the block that
+    /// joins the chain, with its flags. It is on the disk when this returns. None where the chain
+    /// has it.
     ///
     /// Refused as `Committer::receive` refuses, which changes nothing; and where a call of the file
     /// fails (703) or memory is wanted (9), behind which the store has to be opened again.
@@ -107,12 +112,15 @@ impl<D: StoreFile> StoredChain<D> {
         &mut self,
         workers: &Workers<'_, T>,
         block: Block,
-    ) -> Result<Received, StoreRefusal>
+    ) -> Result<Option<CommittedBlock>, StoreRefusal>
         requires stored { IsStored self.old }
         ensures stored { OnOk result (IsStored self.new) }
         ensures received { IfOk result
-            (λ r. Receives (table_of (rules_of self.old)) (stored_chain self.old) block (Ok r)
-            (stored_chain self.new)) }
+            (λ joined. Receives (table_of (rules_of self.old)) (stored_chain self.old) block
+            (Ok (received_of joined)) (stored_chain self.new)) }
+        ensures joined { IfOk result
+            (λ joined. stored_chain self.new
+            ≡ stored_chain self.old ++ option_to_list joined) }
         ensures refused { IfErr result
             (λ refusal. IsReceiveRefused refusal self.old block self.new) }
         // The file is blamed exactly where a call of it failed.
@@ -125,26 +133,19 @@ impl<D: StoreFile> StoredChain<D> {
         ensures grows { Grows (D.contents (file_of self.old)) (D.contents (file_of self.new)) }
     {
         match self.committer.receive(workers, block)? {
-            Received::Known => Ok(Received::Known),
-            Received::Committed => {
-                append_newest(self.alloc, &self.committer, &mut self.file)?;
-                Ok(Received::Committed)
+            None => Ok(None),
+            Some(committed) => {
+                append_newest(self.alloc, &committed, &mut self.file, &mut self.places)?;
+                Ok(Some(committed))
             }
         }
     }
 
-    /// Its blocks with their flags, and the state after them. It takes no memory.
-    pub fn snapshot(&self) -> &Snapshot
-        ensures { result.now ≡ stored_chain self.now }
+    /// Its chain, of which a state is kept. It takes no memory.
+    pub fn chain(&self) -> &KeptChain
+        ensures { result.now ≡ self.now.committer.chain }
     {
-        self.committer.snapshot()
-    }
-
-    /// The block of this number with its flags. None where the chain has none, as of 0.
-    pub fn block(&self, number: u32) -> Option<&CommittedBlock>
-        ensures { option_map (λ c. c.now) result ≡ block_at (stored_chain self.now) number }
-    {
-        self.committer.block(number)
+        self.committer.chain()
     }
 
     /// The file, for whoever closes it.
@@ -155,37 +156,32 @@ impl<D: StoreFile> StoredChain<D> {
     }
 }
 
-/// The chain of all the records of a store, which are committed again as they stand, and how many
-/// bytes stand behind them. Refused as [`StoredChain::open`] refuses.
-fn recommit_all<T: Threads + Sync, V: Watch, R: CountedRead>(
-    tags: &TagChecks<'_, T, V>,
-    alloc: Global,
-    rules: &Rules,
-    reader: &mut R,
-) -> Result<(Snapshot, usize), StoreRefusal>
-    requires unread { R.taken reader.old ≡ [] }
-    ensures lawful { IfOk result (λ p. AreLawful (table_of rules.now) [] p.0) }
-    ensures opened { IfOk result (λ p. IsOpened (R.remaining reader.old) p.0 p.1) }
-    ensures behind { IfOk result (λ p. IsBehind [] (R.taken reader.new) p.0 p.1) }
-    ensures refused { IfErr result
-        (IsOpenRefused (table_of rules.now) (R.remaining reader.old)) }
-{
-    let loaded = load(alloc, reader)?;
-    let held = held_of(&loaded)?;
-    let snapshot = recommit(tags, alloc, rules, loaded.blocks)?;
-    Ok((snapshot, held))
-}
+impl<D: StoreFile> Blocks for StoredChain<D> {
+    ghost use Rattle.log_peer.specs.Holding.{HoldsIfKnown};
 
-/// How many bytes stand behind the whole records of a store.
-fn held_of(loaded: &Loaded) -> Result<usize, StoreRefusal>
-    ensures behind { (before now : List ℕ) → Holds loaded.now.end before now loaded.now.blocks.items loaded.now.held →
-        IfOk result (λ held. IsBehind before now loaded.now.blocks.items held) }
-    ensures cut { result ≡ cut_of loaded.now.end loaded.now.held }
-{
-    match loaded.end {
-        End::Clean | End::Torn => Ok(loaded.held),
-        End::Damaged(number) => Err(StoreRefusal::Damaged(number)),
-        End::DeviceFailed => Err(StoreRefusal::File),
+    ghost chain = { λ c. stored_chain c };
+
+    ghost keeps = { D.is_known };
+
+    ghost IsSound = { λ c. IsStored c
+        × HoldsIfKnown D.is_known (D.contents (file_of c)) (stored_chain c) };
+
+    fn kept(&self) -> &KeptChain {
+        self.committer.chain()
+    }
+
+    fn block(&self, alloc: Global, number: u32) -> Result<CommittedBlock, BlockFault> {
+        let record = read_placed(alloc, self.file.get_ref(), &self.places, number)?;
+        match self.committer.chain().hash(number) {
+            None => Err(BlockFault::Damaged(number)),
+            Some(own) => {
+                if own == header_hash(&record.block().header) {
+                    Ok(record)
+                } else {
+                    Err(BlockFault::Damaged(number))
+                }
+            }
+        }
     }
 }
 
@@ -203,27 +199,31 @@ fn cut_off<D: StoreFile>(file: &mut Counted<D>, count: usize) -> Result<(), Devi
     file.sync()
 }
 
-/// Puts the record of the newest block at the end of a file, and waits until it is on the disk.
+/// Puts the record of a block that joins the chain at the end of a file, waits until it is on the
+/// disk, and keeps where it ends.
 fn append_newest<D: StoreFile>(
     alloc: Global,
-    committer: &Committer,
+    committed: &CommittedBlock,
     file: &mut Counted<D>,
+    places: &mut Places,
 ) -> Result<(), StoreRefusal>
-    ensures record { (before : Chain) (last : Committed) →
-        committed_chain committer.now ≡ before ++ last ∷ [] →
-        OnOk result (file.new.history.moved ≡ file.old.history.moved ++ record_bytes last) }
+    ensures record { OnOk result
+        (file.new.history.moved ≡ file.old.history.moved ++ record_bytes committed.now) }
     ensures synced { OnOk result (file.new.history.synced ≡ file.new.history.moved) }
+    ensures is_record { OnOk result
+        (IsRecord committed.now.block.header.number committed.now) }
+    ensures places { (before : Chain) → places.old ≡ ends_of before →
+        committed.now.block.header.number ≡ suc (length before) →
+        OnOk result (places.new ≡ ends_of (before ++ committed.now ∷ [])) }
     ensures refused { IfErr result IsOfMachine }
     ensures device { IsBlamed result file.old.history.failures file.new.history.failures }
-    ensures appended { (before : Chain) (last : Committed) →
-        committed_chain committer.now ≡ before ++ last ∷ [] →
-        OnOk result
-        (Appends (D.contents file.old.device) (D.contents file.new.device) (record_bytes last)) }
+    ensures appended { OnOk result
+        (Appends (D.contents file.old.device) (D.contents file.new.device)
+        (record_bytes committed.now)) }
     ensures grows { Grows (D.contents file.old.device) (D.contents file.new.device) }
 {
-    if let Some(newest) = committer.newest() {
-        append(alloc, file, newest.block(), newest.flags())?;
-    }
+    push_size(places, committed)?;
+    append(alloc, file, committed.block(), committed.flags())?;
     file.sync()?;
     Ok(())
 }
