@@ -64,6 +64,13 @@ impl<D: Drop> Counted<D> {
         }
     }
 
+    /// The reader or writer itself, for calls that are not counted.
+    pub fn get_ref(&self) -> &D
+        ensures { result.now ≡ self.now.device }
+    {
+        &self.device
+    }
+
     /// The reader or writer itself.
     pub fn into_inner(self) -> D
         ensures { result ≡ self.device }
