@@ -1,6 +1,6 @@
 //! The chain of a peer that receives the blocks of a log.
 
-ghost use Rattle.std.specs.Prelude.{◌≡◌, ◌≢◌, ◌<◌, ◌++◌, IfErr, IfNone, IfOk, MatchResult, OnOk, length};
+ghost use Rattle.std.specs.Prelude.{◌≡◌, ◌≢◌, ◌<◌, ◌++◌, ◌∷◌, [], IfErr, IfNone, IfOk, MatchResult, OnOk, length};
 ghost use Rattle.std.specs.Option.{option_to_list};
 ghost use Rattle.std.specs.Arc.{arc_value};
 ghost use Rattle.committer.specs.Fits.{Fits, blocks_of};

@@ -156,7 +156,7 @@ impl<D: StoreFile> StoredChain<D> {
     }
 }
 
-impl<D: StoreFile> Blocks for StoredChain<D> {
+impl<D: StoreFile + Sync> Blocks for StoredChain<D> {
     ghost use Rattle.log_peer.specs.Holding.{HoldsIfKnown};
 
     ghost chain = { λ c. stored_chain c };
