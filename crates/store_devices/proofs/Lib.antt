@@ -1,3 +1,4 @@
 mod Pieces
 pub mod Walks
 pub mod Filling
+pub mod Lying

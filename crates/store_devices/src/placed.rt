@@ -90,7 +90,7 @@ pub fn read_placed<D: StoreFile>(
     let Some((begin, end)) = places.span(number) else {
         return Err(BlockFault::Device);
     };
-    let mut bytes = vec![in alloc; 0u8; (end - begin) as usize]?;
+    let mut bytes = vec![in alloc; 0u8; end.saturating_sub(begin) as usize]?;
     read_exact_from(file, &mut bytes, begin)?;
     match read_record(alloc, number, &bytes)? {
         Some(record) => Ok(record),

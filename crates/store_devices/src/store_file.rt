@@ -9,8 +9,8 @@ use std::fs::{File, OpenFile};
 use std::io::{self, Seek, SeekFrom, Write};
 use std::os::unix::fs::FileExt;
 
-/// A file that is read at any place, by several threads at once, and written at its end.
-pub trait StoreFile: Write + Drop + Sync {
+/// A file that is read at any place, and written at its end.
+pub trait StoreFile: Write + Drop {
     /// Whether the bytes of each file of the type are known. Then no read of one fails.
     ghost is_known: { Bool } = { false };
 
