@@ -1,5 +1,5 @@
 -- What is answered to a question, by a genesis and a chain.
-use Rattle.std.specs.Prelude.{ℕ, ◌-◌, ◌++◌, List, Option, Some, None, Result, Ok, Err, Bool, bytes_eq, codes, drop, is_some, replicate, slice_get, take}
+use Rattle.std.specs.Prelude.{◌≡◌, ℕ, suc, ◌-◌, ◌++◌, List, [], ◌∷◌, Option, Some, None, Result, Ok, Err, Bool, true, false, bytes_eq, codes, drop, is_some, replicate, slice_get, take}
 use Rattle.std.specs.Fmt.{decimal, signed_decimal}
 use Rattle.std.specs.Int.{w32, cast_signed}
 use Rattle.std.specs.List.{filter, find}
@@ -12,6 +12,8 @@ use Rattle.wire.specs.Ids.{id_of}
 use Rattle.ledger_model.specs.Chain.{Bytes, Chain, Placed, history, placed_from}
 use Rattle.ledger_model.specs.State.{state, state_at}
 use Rattle.ledger_model.specs.Views.{first}
+use Rattle.world_state.specs.Kept.{hashes_of}
+use Rattle.store_devices.specs.Blocks.{IsGiven}
 use Rattle.policy_language.specs.GoodSets.{Names, is_satisfied}
 use Rattle.org_keys.specs.declared.organisation.Organisation.{Organisation}
 use Rattle.endorsement_policy.specs.Endorsed.{Listed, is_org, policy_in}
@@ -88,3 +90,31 @@ answer_json g (Satisfied chaincode orgs) chain =
     let standing = names_among (orgs_behind g.rules.value chain) orgs in
     or_null (λ p. boolean (is_satisfied p standing)) (policy_in g.rules.value (plain_after chain) chaincode)
 answer_json g (Call chaincode argument) chain = outcome_json (payload_or_refusal (exec_of g.book.value) (call_of chaincode argument) chain)
+
+-- ---- where the blocks are read where they lie
+
+-- what a file gives back of a chain: the chain, or else blocks with the hashes of its headers
+abbrev pub GivesBack : Bool → Chain → (read : Chain) → Type 0
+GivesBack true chain read = read ≡ chain
+GivesBack false chain read = hashes_of read ≡ hashes_of chain
+
+-- what it gives back of some blocks alone, from that of a number on
+abbrev pub AreGiven : Bool → Chain → ℕ → (read : Chain) → Type 0
+AreGiven keeps chain number [] = Unit {0}
+AreGiven keeps chain number (c ∷ cs) = IsGiven keeps chain number c × AreGiven keeps chain (suc number) cs
+
+-- the question asks for blocks, and not for the state alone
+abbrev pub AsksBlocks : Question → Type 0
+AsksBlocks (Block n) = Unit {0}
+AsksBlocks (History key) = Unit {0}
+AsksBlocks (HistoryPart key from blocks) = Unit {0}
+AsksBlocks (Transaction id) = Unit {0}
+AsksBlocks q = ⊥
+
+-- the answer to a question after a chain of which these blocks are read
+abbrev pub answer_from : Genesis → Question → (chain read : Chain) → Data
+answer_from g (Block n) chain read = or_null (block_json (orgs_before g.rules.value n chain)) (slice_get read (n - 1))
+answer_from g (History key) chain read = array (items_of (writes_json key (history read)))
+answer_from g (HistoryPart key from blocks) chain read = array (items_of (writes_json key (part_of from blocks read)))
+answer_from g (Transaction id) chain read = or_null (placed_json g.rules.value chain) (find (has_id id) (history read))
+answer_from g q chain read = answer_json g q chain

@@ -3,7 +3,7 @@
 //! [`read_question`] gives the [`Question`] that a line spells, over the data that `serde_json`
 //! reads in it; a line spells at most one ([`a_line_spells_one_question`]). [`answer_text`] gives the
 //! answer by a genesis and a chain (`specs/Answers.antt`): a state is the one after the chain, and a
-//! policy the one in that state.
+//! policy the one in that state. Blocks are read where they lie (`store_devices::Blocks`).
 #![tactic(auto)]
 
 mod answer;

@@ -2,6 +2,7 @@
 
 use simulator::SimRefusal;
 use std::fmt::{self, Display, Formatter, Write};
+use store_devices::BlockFault;
 
 /// Why a call is not endorsed.
 #[derive(Clone, Copy)]
@@ -52,6 +53,8 @@ pub enum Answer {
     },
     /// The answer to a question.
     Json(String),
+    /// A block that a question asks for is not read back (703, 702).
+    Lost(BlockFault),
     /// The words spell nothing of their kind, or there is no such block.
     Bad,
 }
@@ -82,6 +85,9 @@ impl Display for Answer {
                 signature: Some(signature),
             } => write!(f, "seen {org} {number} {hash} {signature}"),
             Answer::Json(text) => write!(f, "{text}"),
+            Answer::Lost(BlockFault::Memory) => f.write_str("refused 9"),
+            Answer::Lost(BlockFault::Device) => f.write_str("refused 703"),
+            Answer::Lost(BlockFault::Damaged(number)) => { write!(f, "refused 702 block {number}") }
             Answer::Bad => f.write_str("bad"),
         }
     }

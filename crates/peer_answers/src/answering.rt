@@ -1,15 +1,20 @@
-//! How a peer answers a line that asks for something, by the chain of a snapshot.
+//! How a peer answers a line that asks for something, by its chain.
 
-ghost use Rattle.std.specs.Prelude.{◌≡◌, Ok, Some, IfOk, option_map};
-ghost use Rattle.peer_answers.specs.Answering.{IsAnswered, IsBlockOf, IsSighted, Says, said_words};
-ghost use Rattle.peer_answers.specs.Answering.{seen_words};
+ghost use Rattle.std.specs.Prelude.{◌≡◌, Ok, Some, IfOk};
+ghost use Rattle.kept_state.specs.Asking.{hash_in};
+ghost use Rattle.kept_state.specs.Keeping.{IsKept, chain_of};
+ghost use Rattle.ledger_model.specs.Chain.{history};
+ghost use Rattle.ledger_model.specs.State.{state};
+ghost use Rattle.world_state.specs.Writing.{as_state};
+ghost use Rattle.peer_answers.specs.Answering.{IsAnswered, IsReply, IsSighted, Says, said_words};
+ghost use Rattle.peer_answers.specs.Answering.{seen_at};
 ghost use Rattle.peer_answers.specs.Calls.{IsCalled, called_words, endorsed_words, endorses_by};
 ghost use Rattle.peer_answers.specs.Calls.{is_passed_over, standing_words};
-ghost use Rattle.peer_answers.specs.Placing.{place_in};
+ghost use Rattle.peer_answers.specs.Placing.{orgs_in, place_among};
 ghost use Rattle.peer_answers.specs.Spoken.{answer_text};
 ghost use Rattle.peer_answers.specs.Setting.{org_of, peer_of};
 ghost use Rattle.endorsement_policy.specs.Endorsed.{key_of};
-ghost use Rattle.endorser.specs.Endorsing.{endorsed_on};
+ghost use Rattle.endorser.specs.Endorsing.{endorsed_in};
 ghost use Rattle.org_keys.specs.Signers.{tag_for};
 ghost use Rattle.simulator.specs.Answers.{Answers};
 
@@ -20,17 +25,17 @@ use crate::numbers::number_in;
 use crate::place::{Place, find_place};
 use crate::seen::seen_bytes;
 use endorsement_policy::Standing;
-use endorser::seal;
-use fab_types::{CommittedBlock, Endorsement, Header, OrgName, Payload, Proposal, Spelled, Tag};
+use endorser::seal_in;
+use fab_types::{Endorsement, OrgName, Payload, Proposal, Spelled, Tag};
 use json_events::{BadLine, read_proposal};
-use json_questions::{answer_text, read_question};
+use json_questions::{Question, answer_text, read_question};
+use kept_state::KeptChain;
 use ledger_setting::Genesis;
-use log_committer::block_at;
 use org_keys::Signers;
-use simulator::{SimRefusal, simulate};
+use simulator::{SimRefusal, simulate_in};
 use std::alloc::{AllocError, Global};
-use wire::header_hash;
-use world_state::Snapshot;
+use store_devices::{BlockFault, Blocks};
+use world_state::{Past, StateMap};
 
 /// What a peer answers by: the genesis of its log, and the organisation that it endorses for, if
 /// there is one.
@@ -42,32 +47,35 @@ pub struct Answering<'a> {
 }
 
 impl Answering<'_> {
-    /// The answer to what a line asks for in these words, by the chain of a snapshot. The only
-    /// error is want of memory.
-    pub fn answer(
+    /// The answer to what a line asks for in these words, by a chain whose blocks are read where
+    /// they lie. The only error is want of memory.
+    pub fn answer<B: Blocks>(
         &self,
-        snapshot: &Snapshot,
+        blocks: &B,
         request: Request,
         words: &str,
     ) -> Result<Answer, AllocError>
+        requires { B.IsSound blocks.now }
         ensures { IfOk result
-            (λ a. Says (peer_of self.now) snapshot.now request words.now (answer_text a)) }
+            (λ a. Says (peer_of B.keeps self.now) (B.chain blocks.now) request words.now
+            (answer_text a)) }
     {
         match request {
-            Request::Call { agreed } => self.call(snapshot, agreed, words),
-            Request::Question => self.question(snapshot, words),
-            Request::Seen => self.seen(snapshot, words),
+            Request::Call { agreed } => self.call(blocks.kept(), agreed, words),
+            Request::Question => self.question(blocks, words),
+            Request::Seen => self.seen(blocks.kept(), words),
         }
     }
 
     /// The answer to a proposal, which these words spell, if they do.
-    fn call(&self, snapshot: &Snapshot, agreed: bool, words: &str) -> Result<Answer, AllocError>
+    fn call(&self, chain: &KeptChain, agreed: bool, words: &str) -> Result<Answer, AllocError>
+        requires { IsKept chain.now }
         ensures { IfOk result
-            (λ a. IsCalled self.now.log.now.genesis (org_of self.now.org) agreed snapshot.now
-            words.now (answer_text a)) }
+            (λ a. IsCalled self.now.log.now.genesis (org_of self.now.org) agreed
+            (chain_of chain.now) words.now (answer_text a)) }
     {
         match read_proposal(self.alloc, words) {
-            Ok(proposal) => self.endorse(snapshot, agreed, &proposal),
+            Ok(proposal) => self.endorse(chain, agreed, &proposal),
             Err(BadLine::Memory) => Err(AllocError),
             Err(BadLine::NoForm) => Ok(Answer::Bad),
         }
@@ -77,69 +85,93 @@ impl Answering<'_> {
     /// nothing.
     fn endorse(
         &self,
-        snapshot: &Snapshot,
+        chain: &KeptChain,
         agreed: bool,
         proposal: &Proposal,
     ) -> Result<Answer, AllocError>
+        requires { IsKept chain.now }
         ensures { IfOk result
             (λ a. answer_text a
             ≡ called_words self.now.log.now.genesis (org_of self.now.org) agreed proposal.now
-            snapshot.now) }
+            (chain_of chain.now)) }
     {
         let Some(org) = self.org else {
             return Ok(Answer::Refused(CallRefusal::Stranger));
         };
         let genesis = &self.log.genesis;
-        match place_in(self.alloc, genesis, snapshot, org)? {
+        let state = chain.map();
+        match place_in(self.alloc, genesis, state, org)? {
             Place::Stranger => Ok(Answer::Refused(CallRefusal::Stranger)),
             Place::Keyless => Ok(Answer::Refused(CallRefusal::Keyless)),
-            Place::Stands => endorsed_or_not(self.alloc, genesis, snapshot, org, agreed, proposal),
+            Place::Stands => endorsed_or_not(self.alloc, genesis, state, org, agreed, proposal),
         }
     }
 
     /// The answer to a question, which these words spell, if they do.
-    fn question(&self, snapshot: &Snapshot, words: &str) -> Result<Answer, AllocError>
+    fn question<B: Blocks>(&self, blocks: &B, words: &str) -> Result<Answer, AllocError>
+        requires { B.IsSound blocks.now }
         ensures { IfOk result
-            (λ a. IsAnswered self.now.log.now.genesis snapshot.now words.now (answer_text a)) }
+            (λ a. IsAnswered B.keeps self.now.log.now.genesis (B.chain blocks.now) words.now
+            (answer_text a)) }
     {
         match read_question(self.alloc, words) {
-            Ok(question) => {
-                let genesis = &self.log.genesis;
-                let text = answer_text(self.alloc, genesis, snapshot, &question)?;
-                Ok(Answer::Json(text))
-            }
+            Ok(question) => reply_to(self.alloc, &self.log.genesis, blocks, &question),
             Err(BadLine::Memory) => Err(AllocError),
             Err(BadLine::NoForm) => Ok(Answer::Bad),
         }
     }
 
     /// What the organisation says of its block whose number these words spell, if they do.
-    fn seen(&self, snapshot: &Snapshot, words: &str) -> Result<Answer, AllocError>
+    fn seen(&self, chain: &KeptChain, words: &str) -> Result<Answer, AllocError>
+        requires { IsKept chain.now }
         ensures { IfOk result
-            (λ a. IsSighted self.now.log.now (org_of self.now.org) snapshot.now words.now
+            (λ a. IsSighted self.now.log.now (org_of self.now.org) (chain_of chain.now) words.now
             (answer_text a)) }
     {
         let Some(org) = self.org else {
             return Ok(Answer::Refused(CallRefusal::Stranger));
         };
-        match asked_block(snapshot, words) {
-            Some(block) => seen_by(self.alloc, self.log, snapshot, org, block),
+        let Some(number) = number_in(words) else {
+            return Ok(Answer::Bad);
+        };
+        match chain.hash(number) {
+            Some(hash) => seen_by(self.alloc, self.log, chain.map(), org, number, &hash),
             None => Ok(Answer::Bad),
         }
     }
 }
 
-/// Whether an organisation can endorse in the state after the chain of a snapshot. The only error
-/// is want of memory.
+/// The answer to a question, or which block is not read back for it.
+fn reply_to<B: Blocks>(
+    alloc: Global,
+    genesis: &Genesis,
+    blocks: &B,
+    question: &Question,
+) -> Result<Answer, AllocError>
+    requires { B.IsSound blocks.now }
+    ensures { IfOk result
+        (λ a. IsReply B.keeps genesis.now question.now (B.chain blocks.now) (answer_text a)) }
+{
+    match answer_text(alloc, genesis, blocks, question) {
+        Ok(text) => Ok(Answer::Json(text)),
+        Err(BlockFault::Memory) => Err(AllocError),
+        Err(fault) => Ok(Answer::Lost(fault)),
+    }
+}
+
+/// Whether an organisation can endorse in a state. The only error is want of memory.
 pub fn place_in(
     alloc: Global,
     genesis: &Genesis,
-    snapshot: &Snapshot,
+    state: &StateMap,
     org: &OrgName,
 ) -> Result<Place, AllocError>
-    ensures { IfOk result (λ place. place ≡ place_in genesis.now snapshot.now org.now) }
+    ensures { IfOk result
+        (λ place. place
+        ≡ place_among genesis.now.signers.value
+        (orgs_in genesis.now.rules.value state.now.entries) org.now) }
 {
-    let standing = Standing::of(alloc, &genesis.rules, snapshot)?;
+    let standing = Standing::in_state(alloc, &genesis.rules, state)?;
     Ok(find_place(&genesis.signers, &standing, org))
 }
 
@@ -148,7 +180,7 @@ pub fn place_in(
 fn endorsed_or_not(
     alloc: Global,
     genesis: &Genesis,
-    snapshot: &Snapshot,
+    state: &StateMap,
     org: &OrgName,
     agreed: bool,
     proposal: &Proposal,
@@ -156,12 +188,13 @@ fn endorsed_or_not(
     ensures { IfOk result
         (λ a. answer_text a
         ≡ standing_words (is_passed_over agreed proposal.now)
-        (endorsed_on (endorses_by genesis.now org.now) proposal.now snapshot.now)) }
+        (endorsed_in (endorses_by genesis.now org.now) proposal.now
+        (as_state state.now.entries))) }
 {
     if is_passed_over(agreed, proposal) {
         return Ok(Answer::Refused(CallRefusal::NotAgreed));
     }
-    match endorsed(alloc, genesis, snapshot, org, proposal) {
+    match endorsed(alloc, genesis, state, org, proposal) {
         Ok((payload, endorsement)) => endorsed_answer(alloc, &payload, &endorsement),
         Err(SimRefusal::Memory) => Err(AllocError),
         Err(refusal) => Ok(Answer::Refused(CallRefusal::Simulation(refusal))),
@@ -178,22 +211,22 @@ pub(crate) fn is_passed_over(agrees: bool, proposal: &Proposal) -> bool
     }
 }
 
-/// Simulates a proposal on the state after the chain of a snapshot, and endorses the payload.
+/// Simulates a proposal on a state, and endorses the payload.
 ///
 /// Refused as the simulation is (401 to 404, 406 to 408), and for want of memory (9).
 fn endorsed(
     alloc: Global,
     genesis: &Genesis,
-    snapshot: &Snapshot,
+    state: &StateMap,
     org: &OrgName,
     proposal: &Proposal,
 ) -> Result<(Payload, Endorsement), SimRefusal>
-    ensures { Answers (endorsed_on (endorses_by genesis.now org.now) proposal.now snapshot.now)
-        result }
+    ensures { Answers (endorsed_in (endorses_by genesis.now org.now) proposal.now
+        (as_state state.now.entries)) result }
 {
     let (rules, signers) = (&*genesis.rules, &*genesis.signers);
-    let payload = simulate(alloc, &genesis.book, snapshot, proposal)?;
-    let endorsement = seal(alloc, rules, signers, snapshot, org, &payload)?;
+    let payload = simulate_in(alloc, &genesis.book, state, proposal)?;
+    let endorsement = seal_in(alloc, rules, signers, state, org, &payload)?;
     Ok((payload, endorsement))
 }
 
@@ -214,32 +247,25 @@ fn endorsed_answer(
     })
 }
 
-/// The block of a snapshot's chain whose number digits spell. None where they spell none, or the
-/// chain has no such block.
-fn asked_block<'a>(snapshot: &'a Snapshot, digits: &str) -> Option<&'a CommittedBlock>
-    ensures { IsBlockOf snapshot.now digits.now (option_map (λ c. c.now) result) }
-{
-    block_at(snapshot, number_in(digits)?)
-}
-
-/// What an organisation says of its block: which hash the header has, signed by the key with which
-/// it stands behind the chain of a snapshot.
+/// What an organisation says of its block of a number: which hash the header has, signed by the key
+/// with which it stands in a state.
 fn seen_by(
     alloc: Global,
     log: &LogGenesis,
-    snapshot: &Snapshot,
+    state: &StateMap,
     org: &OrgName,
-    block: &CommittedBlock,
+    number: u32,
+    hash: &[u8; 32],
 ) -> Result<Answer, AllocError>
     ensures { IfOk result
-        (λ a. answer_text a ≡ seen_words log.now org.now snapshot.now block.now) }
+        (λ a. answer_text a
+        ≡ seen_at log.now org.now (orgs_in log.now.genesis.rules.value state.now.entries) number
+        hash.now) }
 {
-    let standing = Standing::of(alloc, &log.genesis.rules, snapshot)?;
-    let header = &block.block().header;
-    let hash = header_hash(header);
-    let signed = seen_bytes(alloc, &log.digest, header.number.get(), &hash)?;
+    let standing = Standing::in_state(alloc, &log.genesis.rules, state)?;
+    let signed = seen_bytes(alloc, &log.digest, number, hash)?;
     let tag = tag_of(&standing, &log.genesis.signers, org, &signed);
-    said_by(alloc, org, header, &hash, tag)
+    said_by(alloc, org, number, hash, tag)
 }
 
 /// That an organisation says that the header of its block has this hash, and what it put on that,
@@ -247,12 +273,11 @@ fn seen_by(
 fn said_by(
     alloc: Global,
     org: &OrgName,
-    header: &Header,
+    number: u32,
     hash: &[u8; 32],
     tag: Tag,
 ) -> Result<Answer, AllocError>
-    ensures { IfOk result
-        (λ a. answer_text a ≡ said_words org.now header.now.number hash.now tag) }
+    ensures { IfOk result (λ a. answer_text a ≡ said_words org.now number hash.now tag) }
 {
     let signature = match tag {
         Tag::Hmac(_) => None,
@@ -260,7 +285,7 @@ fn said_by(
     };
     Ok(Answer::Seen {
         org: String::from_utf8_lossy(alloc, org.as_slice())?,
-        number: header.number.get(),
+        number,
         hash: hex::encode(alloc, hash)?,
         signature,
     })
