@@ -1,3 +1,5 @@
 pub mod Keeping
 pub mod Stores
 pub mod Peers
+mod Opened
+mod Joined

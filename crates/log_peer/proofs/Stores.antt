@@ -1,26 +1,34 @@
 -- A file with the records of a chain.
-use Rattle.std.proofs.Common.{◌≡◌, ℕ, ◌-◌, ◌+◌, inl, inr, Option, List, [], ◌∷◌, ◌++◌, length, take, sym, ap, subst, ◌∙◌, arith, append-nil}
+use Rattle.std.proofs.Common.{◌≡◌, ℕ, ◌-◌, ◌+◌, inl, inr, Option, suc, List, [], ◌∷◌, ◌++◌, length, take, refl, sym, ap, subst, ◌∙◌, arith, append-nil}
 use Rattle.std.specs.Prelude.{Ok, Err}
 use Rattle.std.specs.List.{flat_map}
 use Rattle.std.proofs.Math.Seq.{take-append_seam}
 use Rattle.std.proofs.lemmas.Grind.{flat_map-append}
-use Rattle.std.proofs.lemmas.List.{length-append}
+use Rattle.std.proofs.lemmas.List.{append_cancel_left, length-append}
 use Rattle.fab_types.specs.Committed.{Committed}
 use Rattle.fab_types.specs.declared.block.Block.{Block}
 use Rattle.ledger_model.specs.Chain.{Chain}
 use Rattle.ledger_model.specs.Judged.{BlockRule}
 use Rattle.block_store.specs.Loading.{Holds, IsBehind, LoadsFrom}
-use Rattle.block_store.specs.Record.{record_bytes}
+use Rattle.block_store.specs.Record.{IsRecord, record_bytes}
+use Rattle.block_store.specs.Store.{AreRecords}
 use Rattle.block_store.specs.declared.end.End.{End}
 use Rattle.block_store.specs.declared.end.End.TheVariants as end
 use Rattle.block_store.specs.declared.appending.AppendFault.{AppendFault}
 use Rattle.block_store.specs.declared.appending.AppendFault.TheVariants as append
 use Rattle.store_devices.specs.History.{cut_back}
+use Rattle.store_devices.specs.Places.{ends_of}
+use Rattle.kept_state.specs.Keeping.{IsKept}
+use Rattle.committer.proofs.Last.{length_map}
+use Rattle.ledger_setting.specs.Judging.{next_by}
 use Rattle.log_committer.specs.Committing.{Receives}
+use Rattle.log_committer.specs.declared.receiving.Received.TheVariants as received
 use Rattle.log_committer.specs.declared.refusal.ReceiveRefusal.{ReceiveRefusal}
 use Rattle.log_committer.specs.declared.refusal.ReceiveRefusal.TheVariants.{Forked, Unfit}
 use Rattle.log_peer.specs.Refusals.{append_refusal}
-use Rattle.log_peer.specs.Storing.{IsOfMachine, IsOpened, cut_of}
+use Rattle.log_peer.specs.Storing.{IsOfMachine, IsOpened, IsStored, cut_of, disk_bytes, file_bytes, stored_chain}
+use Rattle.log_peer.specs.declared.storing.StoredChain.{StoredChain}
+use Rattle.log_peer.proofs.Opened.{records_more}
 
 -- what is cut off behind whole records leaves them
 pub cut_behind : (moved : List ℕ) (cs : Chain) (held : ℕ) → IsBehind [] moved cs held → cut_back held moved ≡ flat_map record_bytes cs
@@ -39,6 +47,33 @@ one_record_more cs c =
 pub refused_same : (rule : BlockRule) (old new : Chain) (block : Block) (r : ReceiveRefusal) → Receives rule old block (Err r) new → new ≡ old
 refused_same rule old new block (Forked number) h = h.2
 refused_same rule old new block (Unfit cause) h = h.2
+
+-- a block that joined is the next one, with flags
+pub joined_next : (rule : BlockRule) (old new : Chain) (block : Block) (c : Committed) → Receives rule old block (Ok received.Committed) new → new ≡ old ++ c ∷ [] →
+    (c.block ≡ block) × (block.header.number ≡ suc (length old))
+joined_next rule old new block c h joined =
+    let next = next_by rule old block in
+    let ends : c ∷ [] ≡ next ∷ [] = append_cancel_left old (c ∷ []) (next ∷ []) (sym joined ∙ h.1) in
+    let same : c ≡ next = cc in
+    (ap (λ (x : Committed). x.block) same, h.0.0.number ∙ ap suc (length_map (λ (x : Committed). x.block) old))
+
+-- with its record the file has the records of the longer chain
+pub stored_more : {D : Type 0} (old new : StoredChain D) (c : Committed) → IsStored old → IsKept new.committer.chain →
+    stored_chain new ≡ stored_chain old ++ c ∷ [] → file_bytes new ≡ file_bytes old ++ record_bytes c → disk_bytes new ≡ file_bytes new →
+    IsRecord c.block.header.number c → c.block.header.number ≡ suc (length (stored_chain old)) →
+    ((before : Chain) → old.places ≡ ends_of before → c.block.header.number ≡ suc (length before) → new.places ≡ ends_of (before ++ c ∷ [])) → IsStored new
+stored_more old new c stored kept grown moved synced is number places =
+    let chain = stored_chain old in
+    record {
+      file = moved ∙ ap (λ (bytes : List ℕ). bytes ++ record_bytes c) stored.file ∙ sym (one_record_more chain c) ∙ ap (flat_map record_bytes) (sym grown);
+      disk = synced;
+      chain = record {
+        kept = kept;
+        blocks = refl;
+        ends = places chain stored.chain.ends number ∙ ap ends_of (sym grown);
+        records = subst (AreRecords 1) (sym grown) (records_more 1 chain c c.block.header.number stored.chain.records (omega (arith, number)) is);
+      };
+    }
 
 pub append_is_of_machine : (fault : AppendFault) → IsOfMachine (append_refusal fault)
 append_is_of_machine append.Memory = tt

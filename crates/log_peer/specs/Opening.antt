@@ -14,8 +14,8 @@ abbrev pub AreOpened : BlockRule → KeptChain → Option RecommitRefusal → (e
 AreOpened rule kept refused ends cs = IsRecommitted rule kept refused cs × (AreRecords 1 cs → ends ≡ ends_of cs)
 
 -- this is the chain of the records, and there each of them ends
-pub record IsChainOf (kept : KeptChain) (ends : List ℕ) (cs : Chain) : Type 0 where
-  pub kept : IsKept kept
-  pub chain : chain_of kept ≡ cs
-  pub ends : ends ≡ ends_of cs
+pub record IsChainOf (chain : KeptChain) (places : List ℕ) (cs : Chain) : Type 0 where
+  pub kept : IsKept chain
+  pub blocks : chain_of chain ≡ cs
+  pub ends : places ≡ ends_of cs
   pub records : AreRecords 1 cs

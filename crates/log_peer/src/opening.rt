@@ -83,22 +83,24 @@ fn push_sizes(places: &mut Places, records: &[CommittedBlock]) -> Result<(), All
         AreRecords 1 (before ++ records.now) →
         OnOk result (places.new ≡ ends_of (before ++ records.now)) }
 {
-    'records: for record in records {
-        push_size(places, record)?;
+    'records: for committed in records {
+        push_size(places, committed)?;
     }
     Ok(())
 }
 
 /// Takes the size of the next record of a store.
-pub(crate) fn push_size(places: &mut Places, record: &CommittedBlock) -> Result<(), AllocError>
+pub(crate) fn push_size(places: &mut Places, committed: &CommittedBlock) -> Result<(), AllocError>
     ensures { (before : Chain) → places.old ≡ ends_of before →
-        IsRecord (suc (length before)) record.now →
-        OnOk result (places.new ≡ ends_of (before ++ record.now ∷ [])) }
+        IsRecord (suc (length before)) committed.now →
+        OnOk result (places.new ≡ ends_of (before ++ committed.now ∷ [])) }
 {
+    // A chain has no block more.
     if places.span(LAST_BLOCK).is_some() {
         return Ok(());
     }
-    places.push(record_size(record))
+    places.push(record_size(committed))?;
+    Ok(())
 }
 
 /// The chain of all the records of a store, which are committed again as they stand, where each of

@@ -1,14 +1,17 @@
 use Rattle.std.proofs.Common.{rules, ◌≡◌, [], ◌∷◌, ◌++◌, List, length, ap, subst, sym, ◌∙◌, append_assoc, arith}
+use Rattle.std.specs.List.{AllByRecursion}
 use Rattle.std.specs.Option.{option_to_list}
 use Rattle.std.specs.Vec.Iter.{into_iter_items}
 use Rattle.endorsement_policy.specs.Endorsed.{Listed}
 use Rattle.ledger_model.specs.Judged.{BlockRule}
 use Rattle.ledger_setting.specs.Rule.{table_of}
+use Rattle.orderer.specs.Making.{number_in}
 use Rattle.log_orderer.specs.Handed.{blocks_of}
 use Rattle.log_orderer.specs.declared.batch.LogBatch.{LogBatch}
 use Rattle.log_committer.specs.Committing.{ReceivesAll}
 use Rattle.log_peer.specs.Peering.{AreNotReceived, IsBatchOf, told_of}
 use Rattle.log_peer.specs.Storing.{rules_of, stored_chain}
+use Rattle.log_peer.proofs.Joined.{all_at, joined_more}
 use Rattle.log_peer.proofs.Keeping.{grows_on}
 use Rattle.log_peer.proofs.Peers.{batch_cut, batch_more, zip_more}
 use Rattle.log_peer.proofs.peering.receive_each.Goals as goal
@@ -48,6 +51,7 @@ batches-preserved g c =
     let split = c.in-Some.ensures.steps.0 in
     let pushed = rw c.unwrap.ensures at c.push.ensures.items in
     let counted = rw c.unwrap.ensures at c.push.ensures.len in
+    let parts : c.args.batches.items ≡ front ++ batch ∷ rest = kept.split ∙ ap (λ (l : List LogBatch). front ++ l) split in
     let here = subst
     (λ (listed : Listed). ReceivesAll (table_of listed) between (option_to_list batch.block) (option_to_list more.received) new) kept.rules
     c.in_ok-batch.ensures.received in
@@ -58,6 +62,10 @@ batches-preserved g c =
       split = kept.split ∙ ap (λ (l : List LogBatch). front ++ l) split ∙ sym (append_assoc front (batch ∷ []) rest);
       fits = omega (arith, ap length split, counted, c.push.ensures.capacity, kept.fits);
       batches = rw pushed (zip_more IsBatchOf front told batch more kept.batches c.in_ok-batch.ensures.batch);
+      joined = λ own.
+          let all = subst (AllByRecursion (λ b. b.report.block ≡ number_in b.block)) parts own in
+          let is = c.in_ok-batch.ensures.joined (all_at (λ b. b.report.block ≡ number_in b.block) front rest batch all) in
+          rw pushed (joined_more rule between new (option_to_list batch.block) (option_to_list more.received) told more here (kept.joined own) is);
       received = rw pushed (batch_more rule old between new front batch told more kept.received here);
       holds = λ held. c.in_ok-batch.ensures.holds (kept.holds held);
       grows = grows_on _ _ _ kept.grows c.in_ok-batch.ensures.grows;
