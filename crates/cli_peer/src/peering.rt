@@ -230,7 +230,7 @@ fn peer_to<T: Threads + Sync, F: Files, V: Watch + Drop, R: Read + Drop, W: Writ
 }
 
 /// Prints with how many blocks a store was opened, and does each line.
-fn peer_behind<T: Threads + Sync, F: Files, D: StoreFile, R: Read + Drop, W: Write>(
+fn peer_behind<T: Threads + Sync, F: Files, D: StoreFile + Sync, R: Read + Drop, W: Write>(
     files: &mut F,
     setting: &Setting<'_, T>,
     reader: &mut Reader<D>,
@@ -290,7 +290,7 @@ fn remark_place<T, F: Files, D: StoreFile>(
 }
 
 /// Does each line.
-fn peer_lines<T: Threads + Sync, F: Files, D: StoreFile, R: Read + Drop, W: Write>(
+fn peer_lines<T: Threads + Sync, F: Files, D: StoreFile + Sync, R: Read + Drop, W: Write>(
     files: &mut F,
     setting: &Setting<'_, T>,
     reader: &mut Reader<D>,
@@ -316,7 +316,7 @@ fn peer_lines<T: Threads + Sync, F: Files, D: StoreFile, R: Read + Drop, W: Writ
 }
 
 /// Does each line that is left of a round and of the input behind it.
-fn do_lines<T: Threads + Sync, F: Files, D: StoreFile, R: Read + Drop, W: Write>(
+fn do_lines<T: Threads + Sync, F: Files, D: StoreFile + Sync, R: Read + Drop, W: Write>(
     files: &mut F,
     setting: &Setting<'_, T>,
     reader: &mut Reader<D>,
@@ -359,7 +359,7 @@ fn do_lines<T: Threads + Sync, F: Files, D: StoreFile, R: Read + Drop, W: Write>
 
 /// Does the line of a round, which has this number. What is known of the answers to the lines
 /// behind it is thrown away where the chain may grow.
-fn take_line<T: Threads + Sync, F: Files, D: StoreFile, W: Write>(
+fn take_line<T: Threads + Sync, F: Files, D: StoreFile + Sync, W: Write>(
     files: &mut F,
     setting: &Setting<'_, T>,
     reader: &mut Reader<D>,
@@ -409,7 +409,7 @@ fn take_line<T: Threads + Sync, F: Files, D: StoreFile, W: Write>(
 
 /// Answers the line of a round, which has this number and asks for something. One that is no text is
 /// a bad one.
-fn answer_line<T, F: Files, D: StoreFile, W: Write>(
+fn answer_line<T, F: Files, D: StoreFile + Sync, W: Write>(
     files: &mut F,
     setting: &Setting<'_, T>,
     peer: &LogPeer<D>,
