@@ -1,10 +1,9 @@
 -- What is printed of a line of the log.
-use Rattle.std.proofs.Common.{◌≡◌, ℕ, List, [], ◌∷◌, ◌++◌, false, true, All, Option, Some, None, IfSome, OnErr, Result, Ok, Err, refl, sym, subst, inl, inr, ◌⊎◌}
+use Rattle.std.proofs.Common.{◌≡◌, List, [], ◌∷◌, ◌++◌, false, true, All, None, OnErr, Result, Ok, Err, refl, sym, subst, inl, inr, ◌⊎◌}
 use Rattle.std.proofs.lemmas.List.Elements.{All-cons, All-nil}
 use Rattle.std.specs.List.{AllByRecursion, AllZip}
 use Rattle.hex.specs.Hex.{encode_lower}
 use Rattle.endorsement_policy.specs.Endorsed.{Listed}
-use Rattle.fab_types.specs.Committed.{Committed}
 use Rattle.ledger_model.specs.Chain.{Bytes, Chain}
 use Rattle.ledger_setting.specs.Rule.{table_of}
 use Rattle.log_orderer.specs.Handed.{batches_of}
@@ -12,11 +11,8 @@ use Rattle.log_orderer.specs.declared.batch.LogBatch.{LogBatch}
 use Rattle.log_orderer.specs.declared.replica.LineReport.{LineReport}
 use Rattle.log_orderer.specs.declared.replica.LineReport.TheVariants as line
 use Rattle.log_orderer.specs.declared.skip.Skip.{Skip}
-use Rattle.log_committer.specs.Committing.{block_at}
 use Rattle.log_committer.specs.Peering.{Held, ReadsLine}
-use Rattle.log_committer.specs.declared.receiving.Received.{Received}
-use Rattle.log_committer.specs.declared.receiving.Received.TheVariants as received
-use Rattle.log_peer.specs.Peering.{AreJoined, IsBatchOf, IsJoinedAt, IsJoinedIn, IsReportOf, batches_in, told_by}
+use Rattle.log_peer.specs.Peering.{IsBatchOf, IsJoinedIn, IsReportOf, batches_in, told_by}
 use Rattle.log_peer.specs.declared.peering.PeerBatch.{PeerBatch}
 use Rattle.log_peer.specs.declared.peering.PeerReport.{PeerReport}
 use Rattle.log_peer.specs.declared.peering.PeerReport.TheVariants.{Skipped, Ticked}
@@ -56,13 +52,6 @@ zip_handed chain (m ∷ made) (t ∷ told) are joined =
 pub all_handed : (chain : Chain) (report : LineReport) (told : PeerReport) → IsReportOf report told → AllByRecursion (IsJoinedIn chain) (batches_in told) →
     All (IsHandedOut chain) (batches_in told)
 all_handed chain report told is joined = zip_handed chain (batches_of report) (batches_in told) (told_are report told is) joined
-
--- it is the block of its number
-pub handed_block : (chain : Chain) (number : ℕ) (block : Option ℕ) (became : Option Received) (joined : Option Committed) → AreJoined became joined →
-    IsJoinedAt chain block joined → block ≡ Some number → became ≡ Some received.Committed → joined ≡ block_at chain number
-handed_block chain number block became None are stands is got = absurd (let none = subst (λ (r : Option Received). AreJoined r None) got are in cc)
-handed_block chain number block became (Some c) are stands is got =
-    sym (subst (λ (b : Option ℕ). IfSome b (λ n. block_at chain n ≡ Some c)) is stands)
 
 -- ---- a line
 

@@ -171,7 +171,7 @@ impl<D: StoreFile> Telling<'_, D> {
         joined: Option<&CommittedBlock>,
         out: &mut Printer<'_, W>,
     ) -> Result<(), Failure>
-        requires joined { option_map (λ c. c.now) joined.entry
+        requires joined { option_map (λ c. c.now) joined
             ≡ block_at (held_by self.now.peer.now).chain number }
         ensures prints { OnOk result
             (Prints out.old out.new (joined_text number (block_at (held_by self.now.peer.now).chain

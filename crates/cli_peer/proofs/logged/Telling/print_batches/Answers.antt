@@ -1,10 +1,9 @@
-use Rattle.std.proofs.Common.{[], subst, sym}
-use Rattle.std.proofs.lemmas.List.Elements.{All-get_or}
+use Rattle.std.proofs.Common.{[]}
 use Rattle.std.specs.List.{flat_map}
 use Rattle.cli_lines.specs.Told.{PrintsPart}
 use Rattle.cli_lines.proofs.Printing.{on_err, part_next, prints_all}
 use Rattle.log_peer.specs.Peering.{held_by}
-use Rattle.cli_peer.specs.Logged.{IsHandedOut, batch_text}
+use Rattle.cli_peer.specs.Logged.{batch_text}
 use Rattle.cli_peer.proofs.logged.Telling.print_batches.Goals as goal
 
 pub returns-clause-prints : goal.returns-clause-prints
@@ -22,10 +21,3 @@ returns-in_err-print_batch-clause-part g c =
     on_err c.from_residual.result (PrintsPart t v (flat_map (batch_text chain) batches))
     (part_next (batch_text chain) [] batches c.loop-batch.batch-index batch t c.loop-batch.out v c.loop-batch-test.true c.batch-item.is c.loop-batch.invariant
     c.in_err-print_batch.ensures.part)
-
-pub print_batch-requires-clause-joined : goal.print_batch-requires-clause-joined
-print_batch-requires-clause-joined g c κs within =
-    let Is = IsHandedOut (held_by c.args.self.now.peer.now).chain in
-    let batch = c.batch-item.result in
-    subst Is (sym c.batch-item.is)
-    (All-get_or Is c.args.batches.now c.loop-batch.batch-index batch c.loop-batch-test.true c.requires.joined)

@@ -1,12 +1,9 @@
-use Rattle.std.proofs.Common.{List, [], All, rules, subst, sym}
-use Rattle.std.proofs.lemmas.List.Elements.{All-head}
+use Rattle.std.proofs.Common.{rules}
 use Rattle.std.specs.List.{flat_map}
-use Rattle.log_peer.specs.Peering.{batches_in, held_by}
-use Rattle.log_peer.specs.declared.peering.PeerBatch.{PeerBatch}
-use Rattle.log_peer.specs.declared.peering.PeerReport.{PeerReport}
+use Rattle.log_peer.specs.Peering.{held_by}
 use Rattle.cli_lines.proofs.Answering.{begins_part}
 use Rattle.cli_lines.proofs.Printing.{printed_on_ok}
-use Rattle.cli_peer.specs.Logged.{IsHandedOut, TellsReport, batch_text}
+use Rattle.cli_peer.specs.Logged.{TellsReport, batch_text}
 use Rattle.cli_peer.proofs.Filters.{prints_so, tells_behind}
 use Rattle.cli_peer.proofs.Entries.{told_ended, told_none, told_skipped}
 use Rattle.cli_peer.proofs.logged.Telling.print_report.Goals as goal
@@ -74,16 +71,3 @@ returns-in_ok-print_seen-in-Skipped-clause-tells g c =
 
 pub returns-in_ok-print_seen-in-Skipped-clause-kept : goal.returns-in_ok-print_seen-in-Skipped-clause-kept
 returns-in_ok-print_seen-in-Skipped-clause-kept g c = c.explain_skip.ensures.kept
-
--- ---- what joined the chain is handed out
-
-pub print_batches-requires-clause-joined : goal.print_batches-requires-clause-joined
-print_batches-requires-clause-joined g c κs within =
-    let Is = IsHandedOut (held_by c.args.self.now.peer.now).chain in
-    subst (λ (batches : List PeerBatch). All Is batches) (sym c.as_slice.ensures)
-    (subst (λ (told : PeerReport). All Is (batches_in told)) c.in-Accepted.is c.requires.joined)
-
-pub print_batch-requires-clause-joined : goal.print_batch-requires-clause-joined
-print_batch-requires-clause-joined g c κs within =
-    let Is = IsHandedOut (held_by c.args.self.now.peer.now).chain in
-    All-head Is c.in-Ticked-Some.batch [] (subst (λ (told : PeerReport). All Is (batches_in told)) (search rules) c.requires.joined)
