@@ -97,6 +97,9 @@ class Api:
             wrong.append(f"the log could take no entry for {unled:.0f} s: {chain.log.why}")
         if (unread := chain.given - chain.read) > BEHIND:
             wrong.append(f"{unread} lines of the log are unread")
+        if chain.peer.lost:
+            wrong.append(f"{chain.peer.lost} blocks were not read back from {self.config.ledger.store}, the last: {chain.peer.why_lost}."
+                         " Look at the disk, put the store aside, and start the node without it")
         if chain.is_full:
             wrong.append(f"the chain is full: it has its {chain.ticks.last:,} blocks, and takes no calls")
         return wrong
@@ -191,7 +194,7 @@ class Api:
                     line = chosen(await self.chain.block(number), request.query.get("chaincode"))
                     await write(stream, f"id: {number}\nevent: block\ndata: {line}\n\n")
                 number += 1
-        except (ConnectionResetError, asyncio.TimeoutError):
+        except (ConnectionResetError, asyncio.TimeoutError, Refused):
             return cut(request, stream)
         finally:
             self.metrics.streams -= 1

@@ -18,6 +18,7 @@ from .journal import Quota
 from .origins import Origins
 from .pace import EACH, Pace
 from .peer import Peer
+from .proposals import Refused
 from .tags import Key, Keys
 from .times import Times
 from .turns import Turns
@@ -284,7 +285,12 @@ class Chain:
             self.newest[number] = asyncio.ensure_future(self._read_block(number))
             if len(self.newest) > NEWEST:
                 self.newest.popitem(last=False)
-        return await asyncio.shield(self.newest[number])
+        try:
+            return await asyncio.shield(self.newest[number])
+        except Refused:
+            # It may be read back later.
+            self.newest.pop(number, None)
+            raise
 
     async def _read_block(self, number: int) -> str:
         text, _ = await self.peer.text_of("block", number=number)

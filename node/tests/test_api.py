@@ -10,15 +10,17 @@ import unittest
 from typing import Any
 from unittest import mock
 
+import aiohttp
 import support
 from aiohttp.test_utils import TestClient, TestServer
-from regtuma import api, config, gateway, load, page, ticks
+from regtuma import api, config, gateway, load, numbers, page, ticks
 from regtuma.chain import Awaited, Chain
 from regtuma.endorsing import Endorsing
 from regtuma.entries import Lines
 from regtuma.fields import RIGHTS
 from regtuma.filters import FilterEnded, TooLong
 from regtuma.gateway import Gateway
+from regtuma.proposals import Refused
 from test_chain import CALL, LAST_BLOCK, FakeLog, Says, Times
 
 ROW = re.compile(r"^\| `(GET|POST|DELETE) (/[^`?\s]*)", re.MULTILINE)
@@ -121,6 +123,37 @@ class Routes(Case):
     async def test_a_filter_that_ends_is_told(self):
         self.chain.peer.text_of = mock.AsyncMock(side_effect=FilterEnded("ledger peer ended with status 1"))
         self.assertEqual(await self.get("/members"), (503, {"why": "ledger peer ended with status 1"}))
+
+
+class Lost(Case):
+    """A block that the store does not give back."""
+
+    async def asyncSetUp(self):
+        await super().asyncSetUp()
+        self.chain.peer.text_of = mock.AsyncMock(side_effect=Refused(503, numbers.in_words("refused 702 block 1")))
+        self.chain.peer.ask_for = self.chain.peer.text_of
+
+    async def test_who_asks_for_it_is_told(self):
+        told = (503, {"refused": 702, "why": "the store is damaged (block 1)"})
+        for path in ("/blocks/1", "/blocks", "/history/a", f"/transactions/{'ab' * 32}"):
+            self.assertEqual(await self.get(path), told)
+        call = {"chaincode": "assets", "args": ["x"], "nonce": "07" * 16}
+        self.assertEqual(await self.post("/transactions", call), told)
+        self.assertEqual(await self.post("/transactions", {"calls": [call]}), (200, {"answers": [told[1]]}))
+        self.assertEqual(await self.get("/height"), (200, {"height": 4}))
+
+    async def test_a_stream_ends_and_the_block_is_asked_for_anew(self):
+        async with self.client.get("/events?from=1", headers={"Caller": "Maker/alice"}) as stream:
+            with self.assertRaises(aiohttp.ClientError):
+                await stream.content.read()
+        self.chain.peer.text_of = Query().text_of
+        self.assertEqual((await self.get("/blocks/1"))[0], 200)
+
+    async def test_it_is_wrong_and_counted(self):
+        self.chain.peer.lost, self.chain.peer.why_lost = 2, "refused 702 block 1: the store is damaged"
+        status, said = await self.get("/healthz")
+        self.assertEqual((status, said["wrong"][0].partition(":")[0]), (503, f"2 blocks were not read back from {self.config.ledger.store}, the last"))
+        self.assertIn("\nregtuma_lost 2.0\n", (await self.get("/metrics"))[1])
 
 
 class Reads(Case):
