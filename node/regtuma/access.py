@@ -24,7 +24,7 @@ from .fields import CALLER, CALLER_HEADER, CERTIFICATE_HEADER, is_loopback
 from .filters import FilterEnded, TooLong
 from .load import Load
 from .owners import owner_of
-from .proposals import Refused
+from .proposals import Refused, check
 from .wire import Object
 
 Handler = Callable[[web.Request], Awaitable[web.StreamResponse]]
@@ -191,12 +191,22 @@ class Access:
                     task.cancel()
 
     @web.middleware
+    async def known(self, request: web.Request, handler: Handler) -> web.StreamResponse:
+        """Tells those alone who have some right what is no route: others get 403 for all, and may ask less often."""
+        if request.match_info.http_exception and not self.config.is_local:
+            caller = self.caller(request)
+            if not any(self.has(caller, it) for it in self.config.rights):
+                raise Refused(403, {"why": f"{caller or 'no certificate'} may do nothing here"})
+        return await handler(request)
+
+    @web.middleware
     async def answered(self, request: web.Request, handler: Handler) -> web.StreamResponse:
         """Counts the request, and turns what fails into an answer."""
         route, status, task = request.match_info.route.resource, 500, asyncio.current_task()
         assert task
         self.going[task] = request
         try:
+            check(request.raw_path.isascii(), "a path has no byte above 7F: write it as %XX")
             response = await handler(request)
             status = response.status
             return response

@@ -3,7 +3,7 @@ import asyncio
 import json
 import pathlib
 import time
-from collections.abc import AsyncIterator, Callable
+from collections.abc import AsyncIterator, Awaitable, Callable
 from urllib.parse import unquote_to_bytes
 
 from aiohttp import web
@@ -38,6 +38,7 @@ STUCK, UNLED, BEHIND = 30.0, 15.0, 10_000
 MANY_ENTRIES = 300_000
 # Method, path, the right that it needs, and what answers.
 Route = tuple[str, str, str, Handler]
+Middleware = Callable[[web.Request, Handler], Awaitable[web.StreamResponse]]
 
 
 class Api:
@@ -66,14 +67,14 @@ class Api:
 
     def app(self) -> web.Application:
         """What clients and other nodes ask, by certificates."""
-        return self._app(self.access.needing, [*self.reads(), *self.calls()])
+        return self._app(self.access.needing, [*self.reads(), *self.calls()], self.access.known)
 
     def page_app(self) -> web.Application:
         """What this machine's own people and Prometheus read, on the loopback."""
         return self._app(self.access.on_loopback, self.reads())
 
-    def _app(self, guarded: Callable[[str, Handler], Handler], routes: list[Route]) -> web.Application:
-        app = web.Application(middlewares=[self.access.answered], client_max_size=BODY)
+    def _app(self, guarded: Callable[[str, Handler], Handler], routes: list[Route], *more: Middleware) -> web.Application:
+        app = web.Application(middlewares=[self.access.answered, *more], client_max_size=BODY)
         for method, path, right, handler in routes:
             app.router.add_route(method, path, guarded(right, handler))
         return app

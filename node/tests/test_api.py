@@ -12,7 +12,7 @@ from unittest import mock
 
 import support
 from aiohttp.test_utils import TestClient, TestServer
-from regtuma import api, config, gateway, load, page, ticks
+from regtuma import api, config, gateway, load, page, ticks, wire
 from regtuma.chain import Awaited, Chain
 from regtuma.endorsing import Endorsing
 from regtuma.entries import Lines
@@ -395,6 +395,23 @@ class Calls(Case):
             ready.set()
             await asyncio.sleep(0)
             self.assertEqual((await self.post("/transactions?wait=0.01", calls[2]))[0], 202)
+
+    async def test_one_caller_waits_for_so_many_calls(self):
+        """Also for one and the same, which is in the log and in no block."""
+        call = {"chaincode": "assets", "args": ["x"], "nonce": "07" * 16}
+        id, many = wire.id_of({**call, "arg": b"x".hex()}), self.api.gateway.waiting
+        self.chain.in_log[id] = "Maker/alice"
+        with mock.patch.object(gateway, "MOST_OF_CALLER", 3), mock.patch.object(gateway, "MOST_UNDER_WAY", 4):
+            asked = asyncio.ensure_future(self.post("/transactions", {"calls": [call] * 5}))
+            other = asyncio.ensure_future(self.post("/transactions", call, caller="Shop/node"))
+            while many.total() < 4:
+                await asyncio.sleep(0.01)
+            status, said = await self.post("/transactions", call, caller="Carrier/node")
+            self.assertEqual((status, said["why"]), (503, "4 calls are under way here: ask again"))
+            self.chain.resolve(id, {"id": id, "block": 5, "place": 0, "flag": 0, "result": ""})
+            answers = [it.get("valid") or it["why"] for it in (await asked)[1]["answers"]]
+            self.assertEqual((answers.count(True), (await other)[1]["valid"]), (3, True))
+        self.assertEqual((answers.count("3 calls of Maker/alice are under way here: ask again"), many.total()), (2, 0))
 
     async def test_one_caller_has_so_many_known_calls_looked_for(self):
         """Each may look through the whole chain: those of others do not wait behind all of its own."""
