@@ -38,5 +38,5 @@ pub use line::{
 };
 pub use object::Object;
 pub use placed::Placed;
-pub use standing::standing_of;
+pub use standing::{standing_of, standing_of_state};
 pub use transaction::{payload_of, placed_transaction_of};

@@ -16,7 +16,7 @@ use crate::transactions::transaction_of;
 use crate::writes::{part_of, writes_of};
 use endorsement_policy::Rules;
 use fab_types::{BlockNumber, CommittedBlock};
-use json_chain::{block_of, genesis_of, line_of, standing_of};
+use json_chain::{block_of, genesis_of, line_of, standing_of_state};
 use ledger_setting::Genesis;
 use serde_json::Value;
 use std::alloc::{AllocError, Global};
@@ -46,24 +46,25 @@ fn answer_of(
     ensures { IfOk result (λ v. view v ≡ answer_json genesis.now question.now snapshot.now) }
 {
     let rules: &Rules = &genesis.rules;
+    let state = snapshot.map();
     match question {
         Question::Setting => genesis_of(alloc, genesis),
-        Question::Members => standing_of(alloc, rules, snapshot),
+        Question::Members => standing_of_state(alloc, rules, state),
         Question::Block(number) => block_at(alloc, rules, snapshot, *number),
-        Question::Get(key) => entry_at(alloc, snapshot, key),
-        Question::Range { start, end, limit } => entries_of(alloc, snapshot, start, end, *limit),
+        Question::Get(key) => entry_at(alloc, state, key),
+        Question::Range { start, end, limit } => entries_of(alloc, state, start, end, *limit),
         Question::History(key) => writes_of(alloc, snapshot, key),
         Question::HistoryPart { key, from, blocks } => {
             part_of(alloc, snapshot, key, *from, *blocks)
         }
         Question::Transaction(id) => transaction_of(alloc, rules, snapshot, id),
         Question::Satisfied { chaincode, orgs } => {
-            satisfied_of(alloc, rules, snapshot, chaincode, orgs)
+            satisfied_of(alloc, rules, state, chaincode, orgs)
         }
         Question::Call {
             chaincode,
             argument,
-        } => outcome_of(alloc, &genesis.book, snapshot, chaincode, argument),
+        } => outcome_of(alloc, &genesis.book, state, chaincode, argument),
     }
 }
 

@@ -3,39 +3,40 @@
 ghost use Rattle.std.specs.Prelude.{◌≡◌, Err, IfOk, Result, string_bytes};
 ghost use Rattle.serde_json.specs.View.{view};
 ghost use Rattle.fab_types.specs.Payloads.{Payload};
-ghost use Rattle.simulator.specs.Answers.{Answers, payload_or_refusal};
+ghost use Rattle.simulator.specs.Answers.{Answers, payload_in};
 ghost use Rattle.simulator.specs.Execution.{exec_of};
 ghost use Rattle.simulator.specs.declared.refusal.SimRefusal.{SimRefusal};
+ghost use Rattle.world_state.specs.Writing.{as_state};
 ghost use Rattle.json_questions.specs.Answers.{call_of, outcome_json, refusal_words, status_words};
 
 use fab_types::{Call, Name, Proposal, Value as Bytes};
 use json_chain::{Object, payload_of};
 use serde_json::Value;
-use simulator::{Book, SimRefusal, simulate};
+use simulator::{Book, SimRefusal, simulate_in};
 use std::alloc::{AllocError, Global};
-use world_state::Snapshot;
+use world_state::StateMap;
 
-/// What a call of a chaincode comes to on the state after a chain: what its payload read, gives and
-/// would write, or why it gives none.
+/// What a call of a chaincode comes to on a state: what its payload read, gives and would write, or
+/// why it gives none.
 pub(crate) fn outcome_of(
     alloc: Global,
     book: &Book,
-    snapshot: &Snapshot,
+    state: &StateMap,
     chaincode: &Name,
     argument: &Bytes,
 ) -> Result<Value, AllocError>
     ensures { IfOk result
         (λ v. view v
         ≡ outcome_json
-        (payload_or_refusal (exec_of book.now) (call_of chaincode.now argument.now)
-        snapshot.now)) }
+        (payload_in (exec_of book.now) (call_of chaincode.now argument.now)
+        (as_state state.now.entries))) }
 {
     let call = Call {
         chaincode: chaincode.clone()?,
         argument: argument.clone()?,
         nonce: [0; 16],
     };
-    match simulate(alloc, book, snapshot, &Proposal::Call(call)) {
+    match simulate_in(alloc, book, state, &Proposal::Call(call)) {
         Ok(payload) => payload_of(alloc, &payload),
         Err(refusal) => refused_of(alloc, refusal),
     }
