@@ -91,8 +91,8 @@ def only(certificate: x509.Certificate, oid: x509.ObjectIdentifier) -> str:
 
 
 def by_loopback(request: web.Request) -> bool:
-    """Whether a request names this machine by a name of the loopback."""
-    return is_loopback(re.sub(r":\d*$", "", request.host))
+    """Whether a request names this machine by a name of the loopback. For one that names none, aiohttp would ask DNS, and wait."""
+    return is_loopback(re.sub(r":\d*$", "", request.headers.get("Host", "")))
 
 
 class Access:

@@ -48,6 +48,7 @@ class Api:
         self.program = program
         self.metrics = Metrics(chain)
         self.access = Access(config, self.metrics.requests)
+        self.choosing = asyncio.Lock()
 
     def reads(self) -> list[Route]:
         """Routes that change nothing."""
@@ -189,7 +190,7 @@ class Api:
                     await stream.write(b":\n\n")
                     continue
                 async with self.access.load.turn(request):
-                    line = chosen(await self.chain.block(number), request.query.get("chaincode"))
+                    line = await self.choose(await self.chain.block(number), request.query.get("chaincode"))
                     await write(stream, f"id: {number}\nevent: block\ndata: {line}\n\n")
                 number += 1
         except (ConnectionResetError, asyncio.TimeoutError):
@@ -372,6 +373,17 @@ class Api:
         await stream.write_eof()
         return stream
 
+    async def choose(self, line: str, chaincode: str | None) -> str:
+        """A block's line, with the transactions of one chaincode alone where that is asked for. That takes the loop some time: it is done for
+        one reader at a time, and as long as it took, the loop is for others."""
+        if chaincode is None:
+            return line
+        async with self.choosing:
+            began = time.monotonic()
+            line = chosen(line, chaincode)
+            await asyncio.sleep(time.monotonic() - began)
+            return line
+
     async def body_of(self, request: web.Request) -> Object:
         """The JSON object that a request has."""
         # What is packed may be of any length once it is unpacked.
@@ -408,10 +420,8 @@ def cut(request: web.Request, stream: web.StreamResponse) -> web.StreamResponse:
     return stream
 
 
-def chosen(line: str, chaincode: str | None) -> str:
-    """A block's line, with the transactions of one chaincode alone where that is asked for."""
-    if chaincode is None:
-        return line
+def chosen(line: str, chaincode: str) -> str:
+    """A block's line, with the transactions of one chaincode alone."""
     block = json.loads(line)
     return dumps({**block, "txs": [it for it in block["txs"] if it.get("chaincode") == chaincode]})
 

@@ -100,6 +100,7 @@ class Gateway:
                 return known
             if id not in self.under_way and id not in self.chain.in_log:
                 self.check_open()
+                self.check_space(caller)
                 self.count(self.callers, caller)
                 self.chain.origins.begin(id)
                 self.under_way[id] = asyncio.ensure_future(self.endorse_and_put(id, caller, proposal, named))
@@ -127,6 +128,11 @@ class Gateway:
             raise Refused(422, {"why": NO_SHARE})
         if self.chain.forked:
             raise Refused(503, {"why": self.chain.forked})
+
+    def check_space(self, caller: str) -> None:
+        """Whether the log has room for a call of a caller."""
+        if seconds := self.chain.spaces[caller].wait():
+            raise Refused(429, {"why": f"calls of {caller} have had their part of the log's bytes: ask again in {seconds:.0f} s"})
 
     def count(self, calls: collections.Counter[str], caller: str) -> None:
         """Counts one more call of a caller, who may have so many, as all callers may together."""
@@ -187,6 +193,7 @@ class Gateway:
         try:
             made = await self.endorsed(held, proposal, named)
             await self.check_size(made)
+            self.check_space(caller)
             if id not in self.chain.origins.used_up:
                 await self.chain.put(caller, id, made)
         finally:

@@ -12,7 +12,7 @@ from unittest import mock
 
 import support
 from aiohttp.test_utils import TestClient, TestServer
-from regtuma import api, config, gateway, load, page, ticks, wire
+from regtuma import api, config, gateway, load, pace, page, ticks, wire
 from regtuma.chain import Awaited, Chain
 from regtuma.endorsing import Endorsing
 from regtuma.entries import Lines
@@ -210,6 +210,22 @@ class Reads(Case):
                          [(3, 3, 1), (4, 4, 1)])
         self.assertEqual((await self.get("/events?from=0"))[0], 400)
         self.assertEqual((await self.get("/events", headers={"Last-Event-ID": "x"}))[0], 400)
+
+    async def test_a_block_is_looked_into_for_one_reader_at_a_time(self):
+        """The loop is for others in between: there are many readers, and long blocks."""
+        happened = list[str]()
+
+        def chosen(line: str, _) -> str:
+            happened.append("chosen")
+            return line
+
+        async def turn() -> None:
+            while happened.count("chosen") < 9:
+                happened.append("turn")
+                await asyncio.sleep(0)
+        with mock.patch.object(api, "chosen", chosen):
+            await asyncio.gather(turn(), *(self.api.choose("{}", "assets") for _ in range(9)))
+        self.assertNotIn("chosen chosen", " ".join(happened))
 
     async def test_a_stream_ends_with_the_right_to_it(self):
         async with self.client.get("/events?from=4", headers={"Caller": "Maker/alice"}) as stream:
@@ -413,6 +429,18 @@ class Calls(Case):
             self.assertEqual((answers.count(True), (await other)[1]["valid"]), (3, True))
         self.assertEqual((answers.count("3 calls of Maker/alice are under way here: ask again"), many.total()), (2, 0))
 
+    async def test_one_caller_has_so_many_bytes_in_the_log(self):
+        """Its space is that of all organisations."""
+        calls = [{"chaincode": "assets", "args": [str(it)], "nonce": f"{it:032x}"} for it in range(4)]
+        made, fits = mock.AsyncMock(return_value="a" * 1500), mock.AsyncMock()
+        with mock.patch.multiple(pace, BYTES=4, BYTES_AT_ONCE=4000), mock.patch.multiple(Gateway, endorsed=made, check_size=fits):
+            self.assertEqual([(await self.post("/transactions?wait=0.1", it))[0] for it in calls[:2]], [202, 202])
+            status, said = await self.post("/transactions?wait=0.1", calls[2])
+            self.assertEqual(status, 429)
+            self.assertRegex(said["why"], r"^calls of Maker/alice have had their part of the log's bytes: ask again in [45]\d\d s$")
+            self.assertEqual((await self.post("/transactions?wait=0.1", calls[3], caller="Shop/node"))[0], 202)
+        self.assertIn('regtuma_put_bytes_total{caller="Maker/alice"} 3000.0', (await self.get("/metrics"))[1])
+
     async def test_one_caller_has_so_many_known_calls_looked_for(self):
         """Each may look through the whole chain: those of others do not wait behind all of its own."""
         asked, ready, call = list[str](), asyncio.Event(), {"chaincode": "assets", "args": ["x"], "nonce": "07" * 16}
@@ -465,6 +493,15 @@ class Loopback(Case):
         for host in ("evil.example", "127.0.0.1.evil.example:80", "10.0.0.1", ""):
             self.assertEqual((await self.get("/height", client=client, headers={"Host": host}))[0], 403)
         self.assertEqual((await self.post("/transactions", CALL, client=client))[0], 404)
+
+    async def test_a_request_that_names_no_host(self):
+        """Nobody is asked for this machine's name: where DNS is away that takes ten seconds of the loop."""
+        client = await self.serve(self.api.page_app())
+        with mock.patch("socket.getfqdn", side_effect=AssertionError):
+            reader, writer = await asyncio.open_connection("127.0.0.1", client.server.port)
+            writer.write(b"GET /height HTTP/1.0\r\n\r\n")
+            self.assertEqual((await reader.readline())[9:12], b"403")
+            writer.close()
 
 
 if __name__ == "__main__":
