@@ -49,6 +49,10 @@ class Metrics(Collector):
         for caller, number in chain.ticked.items():
             ticked.add_metric([caller], number)
         yield ticked
+        put = CounterMetricFamily("regtuma_put_bytes", "Bytes that this node has put into the log for a caller", labels=["caller"])
+        for caller, number in chain.put_bytes.items():
+            put.add_metric([caller], number)
+        yield put
         events = CounterMetricFamily("regtuma_counted", "What happened", labels=["what"])
         for what, count in chain.counts.items():
             events.add_metric([what], count)
