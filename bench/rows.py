@@ -23,7 +23,7 @@ import large
 import measure
 from measure import ROOT, Took, genesis, least, said
 
-SIGNING = ROOT / "crates/ed25519_cases/out/ed25519_cases"
+SIGNING = ROOT / "crates/ledger_cases/out/ledger_cases"
 KERNELS = ["count", "tree", "fibonacci", "sort", "sha256", "hash_map"]
 UNTUNED = ["matrix", "sieve", "quicksort", "chacha20", "edit_distance", "stack_machine"]
 CORES = [it for it in (1, 2, 4) if it <= len(os.sched_getaffinity(0))]

@@ -347,10 +347,6 @@ def cases(report: Report, _at: Setting) -> None:
     unproved.try_cases(report, "ledger_cases")
 
 
-def signatures(report: Report, _at: Setting) -> None:
-    unproved.try_cases(report, "ed25519_cases")
-
-
 def tests(report: Report, at: Setting) -> None:
     """Each test takes two cores, since some have threads."""
     unproved.try_tests(report, at.room, "ledger_tests", max(1, len(os.sched_getaffinity(0)) // 2))
@@ -374,9 +370,8 @@ LEDGER = ("ledger_cli",)
 WITHOUT_PROGRAM: list[Part] = [itself, layout, types, made, prove, edits, calling]
 WITH_LEDGER: list[Part] = [lines, node, reasons, debug, network, modules, change, folders, asking, readme, formats, numbers, keys, scripts]
 # The programs that are compiled for it, the dearest first, and for which parts.
-COMPILED: dict[Part, unproved.Compiled] = {**dict.fromkeys(WITH_LEDGER, LEDGER), tests: ("ledger_tests", "--test"), cases: ("ledger_cases",),
-                                           signatures: ("ed25519_cases",)}
-QUICK: list[Part] = [*WITHOUT_PROGRAM, tests, cases, signatures, *WITH_LEDGER]
+COMPILED: dict[Part, unproved.Compiled] = {**dict.fromkeys(WITH_LEDGER, LEDGER), tests: ("ledger_tests", "--test"), cases: ("ledger_cases",)}
+QUICK: list[Part] = [*WITHOUT_PROGRAM, tests, cases, *WITH_LEDGER]
 # What test/documents does behind the gate: what needs the programs as they were proved, a browser, etcd, a Rust compiler, or many signatures.
 BEHIND: list[Part] = [demo, operations, dev, calls, escrow, page, questions, chaincode, tutorial, lines, install, growths, timed]
 DOCUMENTS: list[Part] = [*BEHIND, *(it for it in [*WITH_LEDGER, made, prove, calling, types] if it not in BEHIND)]

@@ -150,6 +150,28 @@ def try_chain(report: Report, name: str, asked: Asked, process: subprocess.Popen
             report.case(f"{name}: call of {chaincode} with {argument}", said == behind, f"{line[:400]}\nand not {by_sim[:400]}")
 
 
+def try_lost(report: Report, name: str, process: subprocess.Popen, store: pathlib.Path, height: int) -> None:
+    """The file gives back another byte of block 1, and then none: questions that need the block fail, and the peer goes on."""
+    first, second, writes = ('{"ask":"block","number":1}', '{"ask":"block","number":2}', '{"ask":"history","key":"61"}')
+    others = ['{"ask":"members"}', '{"ask":"range","start":"","end":"","limit":9}', '{"ask":"call","chaincode":"assets","arg":"6c697374"}',
+              '{"ask":"block","number":4000000000}']
+    before, whole = asked_in_turn(process, [*others, second]), store.read_bytes()
+    # A byte of the first record, behind the hashes of the header.
+    damaged = whole[:100] + bytes([whole[100] ^ 1]) + whole[101:]
+    for change, data, wanted in (("a byte", damaged, "refused 702 block 1"), ("no bytes", b"", "refused 703")):
+        with store.open("r+b") as file:
+            file.write(data)
+            file.truncate()
+        for question in (first, writes):
+            line, = asked_in_turn(process, [question])
+            report.case(f"{name}: {change}: {question}", line == f"{height} {wanted}", line[:400])
+        after = asked_in_turn(process, others if change == "no bytes" else [*others, second])
+        report.case(f"{name}: {change}: other questions", after == before[:len(after)], f"{after!a:.400}\nand not {before!a:.400}")
+    store.write_bytes(whole)
+    line, = asked_in_turn(process, [first])
+    report.case(f"{name}: the bytes are back", line.startswith(f"{height} {{"), line[:400])
+
+
 def try_questions(report: Report, tree: pathlib.Path, room: pathlib.Path, env: dict[str, str], chains: int = CHAINS) -> None:
     """Asks about chains that grow: each once before, and once behind its last round."""
     sys.path.insert(0, str(tree / "examples/page"))
@@ -177,6 +199,7 @@ def try_questions(report: Report, tree: pathlib.Path, room: pathlib.Path, env: d
             try_chain(report, f"chain {seed}, longer", whole, process)
             for number, line in enumerate(asked_in_turn(process, BAD)):
                 report.case(f"chain {seed}: {BAD[number]!r}", line == f"{len(whole.blocks)} bad", line[:200])
+            try_lost(report, f"chain {seed}", process, growing, len(whole.blocks))
             process.stdin.close()
             report.case(f"chain {seed}: the peer ends", process.wait(SECONDS) == 0)
 

@@ -1,7 +1,7 @@
-"""The part `timed`: the words of `ed25519_cases` that bench/run times and bench/instructions counts, and the scripts of bench/
+"""The part `timed`: the words of `ledger_cases` that bench/run times and bench/instructions counts, and the scripts of bench/
 that time the ledger's commands, with small amounts.
 
-`ed25519_cases` is asked as `rt ci` built it; where it did not, nothing is asked of it. The seed, the key and the signature are
+`ledger_cases` is asked as `rt ci` built it; where it did not, nothing is asked of it. The seed, the key and the signature are
 those of TEST 1 of RFC 8032, section 7.1; the signature of 64 zeros is that of another program.
 """
 import pathlib
@@ -11,7 +11,7 @@ import subprocess
 from report import Report, run
 from tree import ROOT
 
-SIGNING = ROOT / "crates/ed25519_cases/out/ed25519_cases"
+SIGNING = ROOT / "crates/ledger_cases/out/ledger_cases"
 SEED = "9d61b19deffd5a60ba844af492ec2cc44449c5697b326919703bac031cae7f60"
 KEY = "d75a980182b10ab7d54bfed3c964073a0ee172f3daa62325af021a68f707511a"
 OF_NOTHING = ("e5564300c360ac729086e2cc806e828a84877f1eb8e5d974d873e065224901555fb8821590a33bacc61e39701cf9b46bd25bf5f0595bbe2465"
@@ -33,7 +33,7 @@ SECONDS, LONG = 60, 550
 
 
 def said(words: str, given: bytes = b"") -> tuple[int, bytes]:
-    """How `ed25519_cases` ends on words, and what it prints."""
+    """How `ledger_cases` ends on words, and what it prints."""
     ran = subprocess.run([SIGNING, *words.split(" ")], input=given, capture_output=True, timeout=SECONDS)
     return ran.returncode, ran.stdout
 

@@ -23,7 +23,7 @@ REASONS = {
     ("bench/README.md", "bench/slowest"): SMALL,
     ("bench/README.md", "bench/threads"): SMALL,
     ("bench/README.md", "bench/node"): MEASURES,
-    ("bench/README.md", "bench/instructions"): f"{MEASURES}; it needs a build of ed25519_cases",
+    ("bench/README.md", "bench/instructions"): f"{MEASURES}; it needs a build of ledger_cases",
     ("bench/README.md", "bench/gate"): LONG,
     ("bench/README.md", "bench/plants"): LONG,
     ("bench/README.md", "bench/hostile"): LONG,

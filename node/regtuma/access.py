@@ -24,7 +24,7 @@ from .fields import CALLER, CALLER_HEADER, CERTIFICATE_HEADER, is_loopback
 from .filters import FilterEnded, TooLong
 from .load import Load
 from .owners import owner_of
-from .proposals import Refused
+from .proposals import Refused, check
 from .wire import Object
 
 Handler = Callable[[web.Request], Awaitable[web.StreamResponse]]
@@ -91,8 +91,8 @@ def only(certificate: x509.Certificate, oid: x509.ObjectIdentifier) -> str:
 
 
 def by_loopback(request: web.Request) -> bool:
-    """Whether a request names this machine by a name of the loopback."""
-    return is_loopback(re.sub(r":\d*$", "", request.host))
+    """Whether a request names this machine by a name of the loopback. For one that names none, aiohttp would ask DNS, and wait."""
+    return is_loopback(re.sub(r":\d*$", "", request.headers.get("Host", "")))
 
 
 class Access:
@@ -191,12 +191,22 @@ class Access:
                     task.cancel()
 
     @web.middleware
+    async def known(self, request: web.Request, handler: Handler) -> web.StreamResponse:
+        """Tells those alone who have some right what is no route: others get 403 for all, and may ask less often."""
+        if request.match_info.http_exception and not self.config.is_local:
+            caller = self.caller(request)
+            if not any(self.has(caller, it) for it in self.config.rights):
+                raise Refused(403, {"why": f"{caller or 'no certificate'} may do nothing here"})
+        return await handler(request)
+
+    @web.middleware
     async def answered(self, request: web.Request, handler: Handler) -> web.StreamResponse:
         """Counts the request, and turns what fails into an answer."""
         route, status, task = request.match_info.route.resource, 500, asyncio.current_task()
         assert task
         self.going[task] = request
         try:
+            check(request.raw_path.isascii(), "a path has no byte above 7F: write it as %XX")
             response = await handler(request)
             status = response.status
             return response

@@ -3,7 +3,7 @@ import asyncio
 import json
 import pathlib
 import time
-from collections.abc import AsyncIterator, Callable
+from collections.abc import AsyncIterator, Awaitable, Callable
 from urllib.parse import unquote_to_bytes
 
 from aiohttp import web
@@ -38,6 +38,7 @@ STUCK, UNLED, BEHIND = 30.0, 15.0, 10_000
 MANY_ENTRIES = 300_000
 # Method, path, the right that it needs, and what answers.
 Route = tuple[str, str, str, Handler]
+Middleware = Callable[[web.Request, Handler], Awaitable[web.StreamResponse]]
 
 
 class Api:
@@ -47,6 +48,7 @@ class Api:
         self.program = program
         self.metrics = Metrics(chain)
         self.access = Access(config, self.metrics.requests)
+        self.choosing = asyncio.Lock()
 
     def reads(self) -> list[Route]:
         """Routes that change nothing."""
@@ -66,14 +68,14 @@ class Api:
 
     def app(self) -> web.Application:
         """What clients and other nodes ask, by certificates."""
-        return self._app(self.access.needing, [*self.reads(), *self.calls()])
+        return self._app(self.access.needing, [*self.reads(), *self.calls()], self.access.known)
 
     def page_app(self) -> web.Application:
         """What this machine's own people and Prometheus read, on the loopback."""
         return self._app(self.access.on_loopback, self.reads())
 
-    def _app(self, guarded: Callable[[str, Handler], Handler], routes: list[Route]) -> web.Application:
-        app = web.Application(middlewares=[self.access.answered], client_max_size=BODY)
+    def _app(self, guarded: Callable[[str, Handler], Handler], routes: list[Route], *more: Middleware) -> web.Application:
+        app = web.Application(middlewares=[self.access.answered, *more], client_max_size=BODY)
         for method, path, right, handler in routes:
             app.router.add_route(method, path, guarded(right, handler))
         return app
@@ -97,6 +99,9 @@ class Api:
             wrong.append(f"the log could take no entry for {unled:.0f} s: {chain.log.why}")
         if (unread := chain.given - chain.read) > BEHIND:
             wrong.append(f"{unread} lines of the log are unread")
+        if chain.peer.lost:
+            wrong.append(f"{chain.peer.lost} blocks were not read back from {self.config.ledger.store}, the last: {chain.peer.why_lost}."
+                         " Look at the disk, put the store aside, and start the node without it")
         if chain.is_full:
             wrong.append(f"the chain is full: it has its {chain.ticks.last:,} blocks, and takes no calls")
         return wrong
@@ -188,10 +193,10 @@ class Api:
                     await stream.write(b":\n\n")
                     continue
                 async with self.access.load.turn(request):
-                    line = chosen(await self.chain.block(number), request.query.get("chaincode"))
+                    line = await self.choose(await self.chain.block(number), request.query.get("chaincode"))
                     await write(stream, f"id: {number}\nevent: block\ndata: {line}\n\n")
                 number += 1
-        except (ConnectionResetError, asyncio.TimeoutError):
+        except (ConnectionResetError, asyncio.TimeoutError, Refused):
             return cut(request, stream)
         finally:
             self.metrics.streams -= 1
@@ -371,6 +376,17 @@ class Api:
         await stream.write_eof()
         return stream
 
+    async def choose(self, line: str, chaincode: str | None) -> str:
+        """A block's line, with the transactions of one chaincode alone where that is asked for. That takes the loop some time: it is done for
+        one reader at a time, and as long as it took, the loop is for others."""
+        if chaincode is None:
+            return line
+        async with self.choosing:
+            began = time.monotonic()
+            line = chosen(line, chaincode)
+            await asyncio.sleep(time.monotonic() - began)
+            return line
+
     async def body_of(self, request: web.Request) -> Object:
         """The JSON object that a request has."""
         # What is packed may be of any length once it is unpacked.
@@ -407,10 +423,8 @@ def cut(request: web.Request, stream: web.StreamResponse) -> web.StreamResponse:
     return stream
 
 
-def chosen(line: str, chaincode: str | None) -> str:
-    """A block's line, with the transactions of one chaincode alone where that is asked for."""
-    if chaincode is None:
-        return line
+def chosen(line: str, chaincode: str) -> str:
+    """A block's line, with the transactions of one chaincode alone."""
     block = json.loads(line)
     return dumps({**block, "txs": [it for it in block["txs"] if it.get("chaincode") == chaincode]})
 

@@ -16,8 +16,9 @@ from .entries import ENTRY_CHARACTERS, ENTRY_LINES, Entry, Lines, Log, LogError
 from .filters import FilterEnded
 from .journal import Quota
 from .origins import Origins
-from .pace import EACH, Pace
+from .pace import EACH, Pace, pace_of_bytes
 from .peer import Peer
+from .proposals import Refused
 from .tags import Key, Keys
 from .times import Times
 from .turns import Turns
@@ -78,8 +79,9 @@ class Chain:
         self.ticks = config.ticks
         # Where the log is, and how many entries it has; how many of its lines the peer was given, and how many it has read.
         self.revision = self.entries = self.given = self.read = 0
-        # How often entries are put: a file bears any number.
-        self.pace = Pace(0.0 if config.is_local else EACH)
+        # How often entries are put, and how many bytes of all callers and of each: a file bears any number.
+        self.pace, self.space = (Pace(0.0), Pace(0.0)) if config.is_local else (Pace(EACH), pace_of_bytes())
+        self.spaces: collections.defaultdict[str, Pace] = collections.defaultdict(lambda: Pace(0.0) if config.is_local else pace_of_bytes(2))
         self.awaited, self.asking = Awaited(), Asking()
         # Numbers of committed blocks whose hashes are to be told.
         self.unsaid: asyncio.Queue[int] = asyncio.Queue()
@@ -97,8 +99,9 @@ class Chain:
         self.unput: Turns[Unput] = Turns()
         self.put_wanted = asyncio.Event()
         self.counts: collections.defaultdict[str, float] = collections.defaultdict(float)
-        # For how many ticks calls of each caller have waited.
+        # For how many ticks calls of each caller have waited, and how many bytes these have in the log.
         self.ticked: collections.Counter[str] = collections.Counter()
+        self.put_bytes: collections.Counter[str] = collections.Counter()
         self.newest: collections.OrderedDict[int, asyncio.Task[str]] = collections.OrderedDict()
 
     async def start(self) -> None:
@@ -284,7 +287,12 @@ class Chain:
             self.newest[number] = asyncio.ensure_future(self._read_block(number))
             if len(self.newest) > NEWEST:
                 self.newest.popitem(last=False)
-        return await asyncio.shield(self.newest[number])
+        try:
+            return await asyncio.shield(self.newest[number])
+        except Refused:
+            # It may be read back later.
+            self.newest.pop(number, None)
+            raise
 
     async def _read_block(self, number: int) -> str:
         text, _ = await self.peer.text_of("block", number=number)
@@ -317,6 +325,8 @@ class Chain:
     async def put(self, caller: str, id: str, envelope: str) -> None:
         """Puts a transaction's envelope into the log. What comes before the next entry may be put goes into it together."""
         done: asyncio.Future[None] = asyncio.get_running_loop().create_future()
+        self.spaces[caller].take(len(envelope))
+        self.put_bytes[caller] += len(envelope)
         self.unput.add(caller, (id, envelope, done))
         self.put_wanted.set()
         self.in_log[id] = caller
@@ -331,7 +341,9 @@ class Chain:
         while True:
             await self.put_wanted.wait()
             await self.pace.turn()
+            await asyncio.sleep(self.space.wait())
             batch = self._next_entry()
+            self.space.take(sum(len(envelope) for _, envelope, _ in batch))
             failed: LogError | None = None
             began, name = time.monotonic(), f"{self.config.organisation}/call-{secrets.token_hex(12)}"
             self.own[name.encode()] = [id for id, _, _ in batch]

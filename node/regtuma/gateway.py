@@ -1,8 +1,10 @@
 """What clients ask a node for: a call is endorsed by several organisations, put into the log, and waited for."""
 import asyncio
 import collections
+import contextlib
 import time
 import weakref
+from collections.abc import Iterator
 
 from . import numbers
 from .chain import FULL, NO_SHARE, Chain
@@ -23,7 +25,8 @@ DOUBTS = 3
 OTHER_CALL, OTHER_KEY, OTHER_PAYLOAD = ("its payload is that of another call", "its endorsement is not by the key by which it stands",
                                         "its payload is not what this node's own execution gives")
 TOO_HIGH = "it does not agree, and says that it has blocks which this node does not get"
-# How many calls are endorsed and put at a time, and how many of one caller: more are refused, and asked for again later.
+# How many calls are endorsed and put at a time, and how many of one caller: more are refused, and asked for again later. So many may be
+# waited for, too: each takes 13 KB.
 MOST_UNDER_WAY, MOST_OF_CALLER = 4000, 1000
 # How many transactions are looked for in the chain for one caller at a time, since each may take long.
 LOOKED_FOR = 4
@@ -39,7 +42,9 @@ class Gateway:
         self.chosen_at = 0.0
         # Those under way, by their ids: who asks again for one waits for the same.
         self.under_way: dict[str, asyncio.Task[None]] = {}
+        # How many each caller has under way, also where it has gone; and for how many it waits, also once these are in the log.
         self.callers: collections.Counter[str] = collections.Counter()
+        self.waiting: collections.Counter[str] = collections.Counter()
         self.turns: weakref.WeakValueDictionary[str, asyncio.Semaphore] = weakref.WeakValueDictionary()
         # How many bytes an envelope may have, once it is known.
         self.absolute: int | None = None
@@ -75,7 +80,8 @@ class Gateway:
         anew, but not for one that did so before or that the caller names."""
         until, blamed = time.monotonic() + patience, set(organisations_of(body) or [])
         while True:
-            said = await self.submit_once(caller, body, until - time.monotonic())
+            with self.waits(caller):
+                said = await self.submit_once(caller, body, until - time.monotonic())
             organisation = said.get("used_up_by")
             if "nonce" in body or organisation is None or organisation in blamed:
                 return said
@@ -90,11 +96,12 @@ class Gateway:
         id = id_of(proposal)
         waiter = self.chain.wait_for(id)
         try:
-            if "nonce" in body and (known := await self.known(caller, id)):
+            if "nonce" in body and (known := await self.in_chain(caller, id)):
                 return known
             if id not in self.under_way and id not in self.chain.in_log:
                 self.check_open()
-                self.count(caller)
+                self.check_space(caller)
+                self.count(self.callers, caller)
                 self.chain.origins.begin(id)
                 self.under_way[id] = asyncio.ensure_future(self.endorse_and_put(id, caller, proposal, named))
                 self.under_way[id].add_done_callback(lambda it: self.ended(id, caller, it))
@@ -121,14 +128,28 @@ class Gateway:
             raise Refused(422, {"why": NO_SHARE})
         if self.chain.forked:
             raise Refused(503, {"why": self.chain.forked})
-        if len(self.under_way) >= MOST_UNDER_WAY:
-            raise Refused(503, {"why": f"{MOST_UNDER_WAY} calls are under way here: ask again"})
 
-    def count(self, caller: str) -> None:
-        """Counts a call of a caller, who may have so many under way."""
-        if self.callers[caller] >= MOST_OF_CALLER:
+    def check_space(self, caller: str) -> None:
+        """Whether the log has room for a call of a caller."""
+        if seconds := self.chain.spaces[caller].wait():
+            raise Refused(429, {"why": f"calls of {caller} have had their part of the log's bytes: ask again in {seconds:.0f} s"})
+
+    def count(self, calls: collections.Counter[str], caller: str) -> None:
+        """Counts one more call of a caller, who may have so many, as all callers may together."""
+        if calls[caller] >= MOST_OF_CALLER:
             raise Refused(429, {"why": f"{MOST_OF_CALLER} calls of {caller} are under way here: ask again"})
-        self.callers[caller] += 1
+        if calls.total() >= MOST_UNDER_WAY:
+            raise Refused(503, {"why": f"{MOST_UNDER_WAY} calls are under way here: ask again"})
+        calls[caller] += 1
+
+    @contextlib.contextmanager
+    def waits(self, caller: str) -> Iterator[None]:
+        """For as long as a caller waits for a call."""
+        self.count(self.waiting, caller)
+        try:
+            yield
+        finally:
+            self.waiting[caller] -= 1
 
     def ended(self, id: str, caller: str, task: asyncio.Task[None]) -> None:
         """A call is in the log, or is not put. Where nobody waits any more, nobody minds which."""
@@ -144,14 +165,6 @@ class Gateway:
         async with self.turns.setdefault(caller, asyncio.Semaphore(LOOKED_FOR)):
             found: tuple[Object | None, int] = await self.chain.peer.ask_for("transaction", id=id)
             return found[0]
-
-    async def known(self, caller: str, id: str) -> Object | None:
-        """What became of a call, if it is in a block. It is one of those that the caller has under way until that is known."""
-        self.count(caller)
-        try:
-            return await self.in_chain(caller, id)
-        finally:
-            self.callers[caller] -= 1
 
     async def in_chain(self, caller: str, id: str) -> Object | None:
         """What became of a transaction, if it is in a block."""
@@ -180,6 +193,7 @@ class Gateway:
         try:
             made = await self.endorsed(held, proposal, named)
             await self.check_size(made)
+            self.check_space(caller)
             if id not in self.chain.origins.used_up:
                 await self.chain.put(caller, id, made)
         finally:

@@ -37,6 +37,7 @@ class Metrics(Collector):
             "log_unled_seconds": ("Since the log was seen to take entries", time.monotonic() - chain.led),
             "behind": ("Lines of the log not yet read", chain.given - chain.read),
             "asked": ("What was asked of the ledger's peer, and is not answered", chain.peer.unanswered),
+            "lost": ("Blocks that were not read back from the store", chain.peer.lost),
             "log_revision": ("Where the log was read to", chain.revision),
             "log_entries": ("Entries of the log that were read", chain.entries),
             "forked": ("Whether somebody says that a block is another one", int(chain.forked is not None)),
@@ -48,6 +49,10 @@ class Metrics(Collector):
         for caller, number in chain.ticked.items():
             ticked.add_metric([caller], number)
         yield ticked
+        put = CounterMetricFamily("regtuma_put_bytes", "Bytes that this node has put into the log for a caller", labels=["caller"])
+        for caller, number in chain.put_bytes.items():
+            put.add_metric([caller], number)
+        yield put
         events = CounterMetricFamily("regtuma_counted", "What happened", labels=["what"])
         for what, count in chain.counts.items():
             events.add_metric([what], count)

@@ -1,8 +1,11 @@
 """What numbers and flags stand for, in words for those who called. docs/FORMATS.md says where each stands, with what to do."""
 import re
+from typing import TYPE_CHECKING
 
-from .peer import Peer
 from .wire import Object
+
+if TYPE_CHECKING:
+    from .peer import Peer
 
 FLAGS = {0: "VALID", 1: "ENDORSEMENT_POLICY_FAILURE", 2: "MVCC_READ_CONFLICT", 3: "PHANTOM_READ_CONFLICT", 4: "DUPLICATE_TXID"}
 POLICY, CONFLICT, PHANTOM, DUPLICATE = 1, 2, 3, 4
@@ -67,7 +70,7 @@ def spelt(key: str) -> str:
     return bytes.fromhex(key).decode("utf-8", "backslashreplace")
 
 
-async def why(peer: Peer, tx: Object) -> str:
+async def why(peer: "Peer", tx: Object) -> str:
     """Why a transaction of a block has its flag."""
     flag = tx["flag"]
     if flag == POLICY:

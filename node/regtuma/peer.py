@@ -8,7 +8,9 @@ import os
 from collections.abc import Awaitable, Callable
 from typing import Any
 
+from . import numbers
 from .filters import MOST_ASKED, Asked, FilterEnded, TooLong, say_nothing
+from .proposals import Refused
 
 # So many lines of the log are handed on together: what is asked meanwhile comes between.
 AT_ONCE = 64
@@ -28,6 +30,8 @@ class Peer(Asked):
         self.turn = 0
         # How many lines of the log were handed on, and are not read.
         self.unread_lines = 0
+        # How many blocks were not read back from the store, and what was said of the last one.
+        self.lost, self.why_lost = 0, ""
 
     async def log(self, lines: list[bytes]) -> None:
         """Hands on lines of the log, each an index and a text, and waits where the program is behind."""
@@ -61,11 +65,14 @@ class Peer(Asked):
     # ---------------------------------------------------------------- questions
 
     async def text_of(self, what: str, **question: object) -> tuple[str, int]:
-        """The JSON of an answer, and the height at which it was given."""
+        """The JSON of an answer, and the height at which it was given. A block that the store's file does not give back has none."""
         most = MOST_LONG if what in LONG else MOST_ASKED
         said, height = await self.answer_to("ask", json.dumps({"ask": what, **question}), most)
         if said == "bad":
             raise ValueError(f"no question that the program answers: {what}")
+        if said.startswith("refused "):
+            self.lost, self.why_lost = self.lost + 1, numbers.explained(said)
+            raise Refused(503, numbers.in_words(said))
         return said, height
 
     async def ask_for(self, what: str, **question: object) -> tuple[Any, int]:

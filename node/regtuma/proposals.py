@@ -119,7 +119,8 @@ def organisations_of(body: Object) -> list[str] | None:
 
 
 def bound_of(text: str, name: str) -> str:
-    """A key, or the bound of a range, in hex: a text, or hex behind 0x."""
+    """A key, or the bound of a range, in hex: a text, or hex behind 0x. In the place of bytes that are no text stands U+FFFD."""
+    check("\ufffd" not in text, f"{name} is no text in UTF-8: write its bytes as hex behind 0x")
     found = text[2:] if text.startswith("0x") else text.encode("utf-8", "surrogateescape").hex()
     check(is_hex(found) and len(found) <= 2 * MOST_KEY, f"{name} is a text of up to {MOST_KEY} bytes, or hex behind 0x")
     return found

@@ -10,15 +10,17 @@ import unittest
 from typing import Any
 from unittest import mock
 
+import aiohttp
 import support
 from aiohttp.test_utils import TestClient, TestServer
-from regtuma import api, config, gateway, load, page, ticks
+from regtuma import api, config, gateway, load, numbers, pace, page, ticks, wire
 from regtuma.chain import Awaited, Chain
 from regtuma.endorsing import Endorsing
 from regtuma.entries import Lines
 from regtuma.fields import RIGHTS
 from regtuma.filters import FilterEnded, TooLong
 from regtuma.gateway import Gateway
+from regtuma.proposals import Refused
 from test_chain import CALL, LAST_BLOCK, FakeLog, Says, Times
 
 ROW = re.compile(r"^\| `(GET|POST|DELETE) (/[^`?\s]*)", re.MULTILINE)
@@ -123,6 +125,37 @@ class Routes(Case):
         self.assertEqual(await self.get("/members"), (503, {"why": "ledger peer ended with status 1"}))
 
 
+class Lost(Case):
+    """A block that the store does not give back."""
+
+    async def asyncSetUp(self):
+        await super().asyncSetUp()
+        self.chain.peer.text_of = mock.AsyncMock(side_effect=Refused(503, numbers.in_words("refused 702 block 1")))
+        self.chain.peer.ask_for = self.chain.peer.text_of
+
+    async def test_who_asks_for_it_is_told(self):
+        told = (503, {"refused": 702, "why": "the store is damaged (block 1)"})
+        for path in ("/blocks/1", "/blocks", "/history/a", f"/transactions/{'ab' * 32}"):
+            self.assertEqual(await self.get(path), told)
+        call = {"chaincode": "assets", "args": ["x"], "nonce": "07" * 16}
+        self.assertEqual(await self.post("/transactions", call), told)
+        self.assertEqual(await self.post("/transactions", {"calls": [call]}), (200, {"answers": [told[1]]}))
+        self.assertEqual(await self.get("/height"), (200, {"height": 4}))
+
+    async def test_a_stream_ends_and_the_block_is_asked_for_anew(self):
+        async with self.client.get("/events?from=1", headers={"Caller": "Maker/alice"}) as stream:
+            with self.assertRaises(aiohttp.ClientError):
+                await stream.content.read()
+        self.chain.peer.text_of = Query().text_of
+        self.assertEqual((await self.get("/blocks/1"))[0], 200)
+
+    async def test_it_is_wrong_and_counted(self):
+        self.chain.peer.lost, self.chain.peer.why_lost = 2, "refused 702 block 1: the store is damaged"
+        status, said = await self.get("/healthz")
+        self.assertEqual((status, said["wrong"][0].partition(":")[0]), (503, f"2 blocks were not read back from {self.config.ledger.store}, the last"))
+        self.assertIn("\nregtuma_lost 2.0\n", (await self.get("/metrics"))[1])
+
+
 class Reads(Case):
     async def test_of_the_chain(self):
         self.assertEqual(await self.get("/height"), (200, {"height": 4}))
@@ -210,6 +243,22 @@ class Reads(Case):
                          [(3, 3, 1), (4, 4, 1)])
         self.assertEqual((await self.get("/events?from=0"))[0], 400)
         self.assertEqual((await self.get("/events", headers={"Last-Event-ID": "x"}))[0], 400)
+
+    async def test_a_block_is_looked_into_for_one_reader_at_a_time(self):
+        """The loop is for others in between: there are many readers, and long blocks."""
+        happened = list[str]()
+
+        def chosen(line: str, _) -> str:
+            happened.append("chosen")
+            return line
+
+        async def turn() -> None:
+            while happened.count("chosen") < 9:
+                happened.append("turn")
+                await asyncio.sleep(0)
+        with mock.patch.object(api, "chosen", chosen):
+            await asyncio.gather(turn(), *(self.api.choose("{}", "assets") for _ in range(9)))
+        self.assertNotIn("chosen chosen", " ".join(happened))
 
     async def test_a_stream_ends_with_the_right_to_it(self):
         async with self.client.get("/events?from=4", headers={"Caller": "Maker/alice"}) as stream:
@@ -396,6 +445,35 @@ class Calls(Case):
             await asyncio.sleep(0)
             self.assertEqual((await self.post("/transactions?wait=0.01", calls[2]))[0], 202)
 
+    async def test_one_caller_waits_for_so_many_calls(self):
+        """Also for one and the same, which is in the log and in no block."""
+        call = {"chaincode": "assets", "args": ["x"], "nonce": "07" * 16}
+        id, many = wire.id_of({**call, "arg": b"x".hex()}), self.api.gateway.waiting
+        self.chain.in_log[id] = "Maker/alice"
+        with mock.patch.object(gateway, "MOST_OF_CALLER", 3), mock.patch.object(gateway, "MOST_UNDER_WAY", 4):
+            asked = asyncio.ensure_future(self.post("/transactions", {"calls": [call] * 5}))
+            other = asyncio.ensure_future(self.post("/transactions", call, caller="Shop/node"))
+            while many.total() < 4:
+                await asyncio.sleep(0.01)
+            status, said = await self.post("/transactions", call, caller="Carrier/node")
+            self.assertEqual((status, said["why"]), (503, "4 calls are under way here: ask again"))
+            self.chain.resolve(id, {"id": id, "block": 5, "place": 0, "flag": 0, "result": ""})
+            answers = [it.get("valid") or it["why"] for it in (await asked)[1]["answers"]]
+            self.assertEqual((answers.count(True), (await other)[1]["valid"]), (3, True))
+        self.assertEqual((answers.count("3 calls of Maker/alice are under way here: ask again"), many.total()), (2, 0))
+
+    async def test_one_caller_has_so_many_bytes_in_the_log(self):
+        """Its space is that of all organisations."""
+        calls = [{"chaincode": "assets", "args": [str(it)], "nonce": f"{it:032x}"} for it in range(4)]
+        made, fits = mock.AsyncMock(return_value="a" * 1500), mock.AsyncMock()
+        with mock.patch.multiple(pace, BYTES=4, BYTES_AT_ONCE=4000), mock.patch.multiple(Gateway, endorsed=made, check_size=fits):
+            self.assertEqual([(await self.post("/transactions?wait=0.1", it))[0] for it in calls[:2]], [202, 202])
+            status, said = await self.post("/transactions?wait=0.1", calls[2])
+            self.assertEqual(status, 429)
+            self.assertRegex(said["why"], r"^calls of Maker/alice have had their part of the log's bytes: ask again in [45]\d\d s$")
+            self.assertEqual((await self.post("/transactions?wait=0.1", calls[3], caller="Shop/node"))[0], 202)
+        self.assertIn('regtuma_put_bytes_total{caller="Maker/alice"} 3000.0', (await self.get("/metrics"))[1])
+
     async def test_one_caller_has_so_many_known_calls_looked_for(self):
         """Each may look through the whole chain: those of others do not wait behind all of its own."""
         asked, ready, call = list[str](), asyncio.Event(), {"chaincode": "assets", "args": ["x"], "nonce": "07" * 16}
@@ -448,6 +526,15 @@ class Loopback(Case):
         for host in ("evil.example", "127.0.0.1.evil.example:80", "10.0.0.1", ""):
             self.assertEqual((await self.get("/height", client=client, headers={"Host": host}))[0], 403)
         self.assertEqual((await self.post("/transactions", CALL, client=client))[0], 404)
+
+    async def test_a_request_that_names_no_host(self):
+        """Nobody is asked for this machine's name: where DNS is away that takes ten seconds of the loop."""
+        client = await self.serve(self.api.page_app())
+        with mock.patch("socket.getfqdn", side_effect=AssertionError):
+            reader, writer = await asyncio.open_connection("127.0.0.1", client.server.port)
+            writer.write(b"GET /height HTTP/1.0\r\n\r\n")
+            self.assertEqual((await reader.readline())[9:12], b"403")
+            writer.close()
 
 
 if __name__ == "__main__":

@@ -34,7 +34,7 @@ ENVELOPE = "0161" + "00" * 27
 class Says:
     """A filter that answers by these lines, a peer at one height, and keeps what it is asked."""
 
-    name, unanswered = "the peer", 0
+    name, unanswered, lost, why_lost = "the peer", 0, 0, ""
 
     def __init__(self, *lines: str, height: int = 0):
         self.lines, self.height = list(lines), height

@@ -8,6 +8,7 @@ import contextlib
 import functools
 import http.client
 import json
+import logging
 import os
 import pathlib
 import re
@@ -38,7 +39,7 @@ MOST_MEMORY = 200
 PATIENCE, SOON, FILES = 60.0, 10.0, 512
 BLOCKS, LONG = 200, "x" * 300_000
 RIGHTS = "\n".join(f'{it} = ["Maker/*", "Carrier/*"]' for it in ("read", "observe", "evaluate", "submit", "endorse"))
-MALFORMED = (b"GARBAGE\r\n\r\n", b"GET /\xff HTTP/1.1\r\nHost: x\r\n\r\n", b"GET /" + b"a" * 20000 + b" HTTP/1.1\r\n\r\n",
+MALFORMED = (b"GARBAGE\r\n\r\n", b"GET /state/\xff HTTP/1.1\r\nHost: x\r\n\r\n", b"GET /" + b"a" * 20000 + b" HTTP/1.1\r\n\r\n",
              b"GET /height HTTP/1.1\r\nHost: x\r\na b: c\r\n\r\n", b"GET /height\r\n\r\n")
 JSON, SOCKET_KEY = "Content-Type: application/json", "Sec-WebSocket-Version: 13\r\nSec-WebSocket-Key: dGhlIHNhbXBsZSBub25jZQ=="
 # How the Carrier may spell its own name as a signer: to TLS all are one.
@@ -62,6 +63,7 @@ class LongBlocks(Query):
 async def serve(folder):
     """A node of which only the doors are real. It has few files, so that connections which come as far as here soon are too many."""
     resource.setrlimit(resource.RLIMIT_NOFILE, (FILES, FILES))
+    logging.getLogger("asyncio").setLevel(logging.ERROR)
     settings = config.read(str(folder / "node.toml"))
     settings.ledger.template = str(support.ROOT / "examples/page/template.html")
     it = mock.Mock(config=settings, runners=[])
@@ -98,7 +100,7 @@ class Doors(unittest.TestCase):
         for name in ("maker", "carrier"):
             made.make(f"{name}.ca", f"/O={name.capitalize()}/CN=authority", extension=f"{AUTHORITY},pathlen:0")
         made.make("node", "/O=Maker/CN=node", by="maker.ca")
-        for name in ("alice", "bob"):
+        for name in ("alice", "bob", "eve"):
             made.make(name, f"/O=Maker/CN={name}", by="maker.ca")
         made.make("carrier", "/O=Carrier/CN=node", by="carrier.ca")
         made.make("forged", "/O=Maker/CN=alice", by="carrier.ca")
@@ -146,6 +148,12 @@ class Doors(unittest.TestCase):
     def files(self) -> int:
         """How many files the node has open."""
         return len(os.listdir(f"/proc/{self.node.pid}/fd"))
+
+    def is_quiet(self) -> bool:
+        """Whether no connection of an earlier trial ends."""
+        files = self.files()
+        time.sleep(0.5)
+        return self.files() == files
 
     @classmethod
     @functools.cache
@@ -233,6 +241,21 @@ class Doors(unittest.TestCase):
         self.assertEqual((set(said[:90]), said[-1]), ({403}, 429))
         self.others_are_served()
 
+    def test_who_has_no_right_is_told_of_no_path(self):
+        self.assertEqual(self.get("/nothing", "alice")[0], 404)
+        status, said = self.get("/nothing", "forged")
+        self.assertEqual((status, said), (403, '{"why":"no certificate may do nothing here"}'))
+        self.assertEqual(self.get("/nothing")[0], 404)
+
+    def test_a_caller_asks_so_often(self):
+        """Of what the proxy answers itself, so that a busy machine does as much within ten seconds."""
+        at = self.connect("eve")
+        threading.Thread(target=at.sendall, args=(b"GET http://x/ HTTP/1.1\r\nHost: x\r\n\r\n" * 2100,), daemon=True).start()
+        answers = [self.answered(at)[0] for _ in range(2100)]
+        self.assertEqual((set(answers[:1000]), answers[-1]), ({400}, 429))
+        self.assertEqual(self.get("/height", "eve")[0], 429)
+        self.others_are_served()
+
     def test_an_address_begins_so_many_connections(self):
         """Each costs the proxy a millisecond, also where nothing more is said."""
         for _ in range(700):
@@ -254,6 +277,7 @@ class Doors(unittest.TestCase):
 
     def test_where_the_node_ends_a_client_asks_again(self):
         """So it takes 503, and that alone."""
+        self.come(self.is_quiet)
         at, files = self.connect("alice"), self.files()
         at.sendall(f"GET {WAITS} HTTP/1.1\r\nHost: 127.0.0.1\r\n\r\n".encode())
         self.come(lambda: self.files() > files)
@@ -403,6 +427,7 @@ class Doors(unittest.TestCase):
                 (b"GET /blocks/%FF HTTP/1.1\r\nHost: 127.0.0.1\r\n\r\n", 400, "a block's number"),
                 (b"GET /transactions/%FF%FE HTTP/1.1\r\nHost: 127.0.0.1\r\n\r\n", 400, "an id is hex"),
                 (b"GET /blocks?from=%FF HTTP/1.1\r\nHost: 127.0.0.1\r\n\r\n", 400, "from is a whole number"),
+                (b"GET /state?start=%FF HTTP/1.1\r\nHost: 127.0.0.1\r\n\r\n", 400, "start is no text in UTF-8"),
                 (self.post(b"{}", f"{JSON}; charset=nowhere"), 400, "chaincode is a name"),
                 (self.post(b'"\xff"', JSON), 400, "the body is no JSON"),
                 (self.post(b"\x1f\x8bxx", f"{JSON}\r\nContent-Encoding: gzip"), 400, "a body is not packed"),
@@ -420,6 +445,16 @@ class Doors(unittest.TestCase):
                 at.connect(str(self.room / "node.sock"))
                 self.assertLess(self.answered(at, data)[0], 500)
         self.others_are_served()
+        self.assertFalse("Traceback" in self.said(), self.said()[-2000:])
+
+    def test_a_request_names_a_path(self):
+        """aiohttp takes a host in its place for a URL, and ends without an answer, where it is none."""
+        for host in ("[::1", "xn--", "127.0.0.1"):
+            for name in ("alice", ""):
+                for scheme in ("http", "https"):
+                    with self.subTest(host=host, name=name, scheme=scheme):
+                        asked = f"GET {scheme}://{host}/height HTTP/1.1\r\nHost: {host}\r\n\r\n".encode()
+                        self.assertEqual(self.answered(self.connect(name), asked)[0], 400)
         self.assertFalse("Traceback" in self.said(), self.said()[-2000:])
 
     def test_a_body_that_breaks_off(self):

@@ -1,5 +1,4 @@
-"""How often a node puts entries into the log."""
-import asyncio
+"""How often a node puts entries into the log, and how many bytes."""
 import asyncio
 import re
 import unittest
@@ -7,7 +6,7 @@ from unittest import mock
 
 import support
 from regtuma import pace
-from regtuma.pace import Pace
+from regtuma.pace import Pace, pace_of_bytes
 
 
 class Clock:
@@ -46,6 +45,20 @@ class Paces(unittest.IsolatedAsyncioTestCase):
         assert share
         self.assertEqual((count <= 19_001, int(share[1])), (True, 20_000))
         self.assertEqual([round(it, 6) for it in self.clock.slept[pace.BURST:]], [0.2] * (count - pace.BURST))
+
+    async def test_bytes_stay_below_the_share_of_a_door(self) -> None:
+        """In base64, and with what a request has beside them; and a caller has a half."""
+        share, most = re.search(r"puts { sc2_bytes_in_rate gt (\d+) }", (support.ROOT / "node" / "door.cfg").read_text()), list[int]()
+        assert share
+        for part in (1, 2):
+            turns, began, size = pace_of_bytes(part), self.clock.now, 0
+            while self.clock.now < began + 3600:
+                await self.clock.sleep(turns.wait())
+                turns.take(500_000)
+                size += 500_000
+            most.append(size)
+        self.assertLess(most[0] * 4 // 3 + 19_000 * 800, int(share[1]))
+        self.assertLess(abs(most[1] * 2 - most[0]), 2_000_000)
 
     async def test_a_file_bears_any_number(self) -> None:
         turns = Pace(0.0)

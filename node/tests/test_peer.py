@@ -8,11 +8,12 @@ from collections.abc import AsyncIterator
 from unittest import mock
 
 import support
-from regtuma import chain, endorsing, filters, peer as peers
+from regtuma import chain, endorsing, filters, numbers, peer as peers
 from regtuma.endorsing import Approver
 from regtuma.filters import Asked, Filter, FilterEnded
 from regtuma.metrics import Metrics
 from regtuma.peer import MOST_LONG, Peer
+from regtuma.proposals import Refused
 from test_chain import FakeLog
 
 # A peer of one block, which answers by the text that it is given; by `wait` it stands still until somebody makes a file of the name.
@@ -198,6 +199,15 @@ class Peers(unittest.IsolatedAsyncioTestCase):
             self.assertEqual(await self.peer.ask_for("members"), ({"serial": 3}, 5))
         with mock.patch.object(Peer, "answer_to", return_value=("bad", 5)), self.assertRaisesRegex(ValueError, "^no question that .*: none$"):
             await self.peer.ask_for("none")
+
+    async def test_a_block_that_is_not_read_back(self):
+        """It fails that question alone, and is counted: who asks chooses the block."""
+        for said, number in (("refused 702 block 1", 702), ("refused 703", 703)):
+            with mock.patch.object(Peer, "answer_to", return_value=(said, 5)), self.assertRaises(Refused) as refused:
+                await self.peer.ask_for("block", number=1)
+            self.assertEqual((refused.exception.status, refused.exception.said["refused"]), (503, number))
+        self.assertEqual((self.peer.lost, self.peer.why_lost), (2, f"refused 703: {numbers.NUMBERS[703]}"))
+        self.assertEqual(await self.peer.text_of("members"), ('ask {"ask": "members"}', 1))
 
     async def test_what_ends_it(self):
         for said in ("refused 602 block 2", "bad line 3", "answer 9 1 {}", "answer 1", "answer 1 x y"):

@@ -15,7 +15,8 @@ pub trait Files {
 
     type Writer: Write + Drop;
 
-    type Store: StoreFile;
+    /// The file of a store, of which several threads read at once.
+    type Store: StoreFile + Sync;
 
     type Input: Read + Drop;
 

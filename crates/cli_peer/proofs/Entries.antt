@@ -1,24 +1,59 @@
 -- What is printed of a line of the log.
-use Rattle.std.proofs.Common.{◌≡◌, [], ◌++◌, false, true, None, OnErr, Result, Ok, Err, refl, sym, subst, inl, inr, ◌⊎◌}
+use Rattle.std.proofs.Common.{◌≡◌, List, [], ◌∷◌, ◌++◌, false, true, All, None, OnErr, Result, Ok, Err, refl, sym, subst, inl, inr, ◌⊎◌}
+use Rattle.std.proofs.lemmas.List.Elements.{All-cons, All-nil}
+use Rattle.std.specs.List.{AllByRecursion, AllZip}
 use Rattle.hex.specs.Hex.{encode_lower}
 use Rattle.endorsement_policy.specs.Endorsed.{Listed}
-use Rattle.ledger_model.specs.Chain.{Bytes}
+use Rattle.ledger_model.specs.Chain.{Bytes, Chain}
 use Rattle.ledger_setting.specs.Rule.{table_of}
+use Rattle.log_orderer.specs.Handed.{batches_of}
+use Rattle.log_orderer.specs.declared.batch.LogBatch.{LogBatch}
 use Rattle.log_orderer.specs.declared.replica.LineReport.{LineReport}
+use Rattle.log_orderer.specs.declared.replica.LineReport.TheVariants as line
 use Rattle.log_orderer.specs.declared.skip.Skip.{Skip}
 use Rattle.log_committer.specs.Peering.{Held, ReadsLine}
-use Rattle.log_peer.specs.Peering.{IsReportOf, told_by}
+use Rattle.log_peer.specs.Peering.{IsBatchOf, IsJoinedIn, IsReportOf, batches_in, told_by}
+use Rattle.log_peer.specs.declared.peering.PeerBatch.{PeerBatch}
 use Rattle.log_peer.specs.declared.peering.PeerReport.{PeerReport}
 use Rattle.log_peer.specs.declared.peering.PeerReport.TheVariants.{Skipped, Ticked}
+use Rattle.log_peer.specs.declared.peering.PeerReport.TheVariants as peer
 use Rattle.cli_lines.specs.Told.{Begins, Prints, PrintsNothing, PrintsPart, Told}
 use Rattle.cli_lines.specs.declared.failure.Failure.{Failure}
 use Rattle.cli_lines.proofs.Printing.{part_first, part_none, part_then, prints_none}
 use Rattle.cli_peer.specs.Filters.{PrintsSo}
-use Rattle.cli_peer.specs.Logged.{IsLogged, Reached, TellsEntry, TellsReport, TellsText}
+use Rattle.cli_peer.specs.Logged.{IsHandedOut, IsLogged, Reached, TellsEntry, TellsReport, TellsText}
 use Rattle.cli_peer.specs.Marks.{NamesAnotherIn}
 use Rattle.cli_peer.specs.Printed.{read_text, skipped_text}
 use Rattle.peer_answers.specs.declared.log_genesis.LogGenesis.{LogGenesis}
 use Rattle.cli_peer.proofs.Filters.{told_behind}
+
+-- ---- the batches that a line ended
+
+pub told_are : (report : LineReport) (told : PeerReport) → IsReportOf report told → AllZip IsBatchOf (batches_of report) (batches_in told)
+told_are (line.Accepted id batches) (peer.Accepted told others) is = is.1
+told_are (line.Ticked batch) (peer.Ticked told) is = is
+told_are (line.Skipped skip) (peer.Skipped told) is = tt
+told_are (line.Accepted id batches) (peer.Ticked told) is = absurd is
+told_are (line.Accepted id batches) (peer.Skipped told) is = absurd is
+told_are (line.Ticked batch) (peer.Accepted told others) is = absurd is
+told_are (line.Ticked batch) (peer.Skipped told) is = absurd is
+told_are (line.Skipped skip) (peer.Accepted told others) is = absurd is
+told_are (line.Skipped skip) (peer.Ticked told) is = absurd is
+
+-- what joined the chain is handed out
+zip_handed : (chain : Chain) (made : List LogBatch) (told : List PeerBatch) → AllZip IsBatchOf made told → AllByRecursion (IsJoinedIn chain) told →
+    All (IsHandedOut chain) told
+zip_handed chain [] [] are joined = All-nil (IsHandedOut chain)
+zip_handed chain [] (t ∷ told) are joined = absurd are
+zip_handed chain (m ∷ made) [] are joined = absurd are
+zip_handed chain (m ∷ made) (t ∷ told) are joined =
+    All-cons (IsHandedOut chain) t told (are.0.3, joined.0) (zip_handed chain made told are.1 joined.1)
+
+pub all_handed : (chain : Chain) (report : LineReport) (told : PeerReport) → IsReportOf report told → AllByRecursion (IsJoinedIn chain) (batches_in told) →
+    All (IsHandedOut chain) (batches_in told)
+all_handed chain report told is joined = zip_handed chain (batches_of report) (batches_in told) (told_are report told is) joined
+
+-- ---- a line
 
 -- a line that was read, by what is told of it
 pub line_logged : (log : LogGenesis) (by : Listed) (old new : Reached) (index said : Bytes) (told : PeerReport) → by ≡ log.genesis.rules.value →

@@ -144,7 +144,7 @@ told_left p input held left after first cut from Holds t u opens lawful is holds
     ))
     told
 
-some_so : {X : Type 0} (o : Option X) (P : Type 0) → IsSome o → IfSome o (λ _. P) → P
+pub some_so : {X : Type 0} (o : Option X) (P : Type 0) → IsSome o → IfSome o (λ _. P) → P
 some_so None P is so = absurd (cc)
 some_so (Some x) P is so = so
 

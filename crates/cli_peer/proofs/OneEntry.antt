@@ -1,13 +1,13 @@
 -- What is printed of a line of the log is one, but for the fault of bytes that spell no envelope.
-use Rattle.std.proofs.Common.{◌≡◌, ◌≢◌, ◌⊎◌, ◌++◌, inl, inr, ℕ, List, [], ◌∷◌, map, Option, Some, None, Ok, codes, refl, sym, ap, subst, ◌∙◌, append-nil}
+use Rattle.std.proofs.Common.{◌≡◌, ◌≢◌, ◌⊎◌, ◌++◌, inl, inr, ℕ, List, [], ◌∷◌, map, Option, Some, None, Ok, codes, refl, sym, ap, ap₂, subst, ◌∙◌, append-nil}
 use Rattle.std.proofs.lemmas.Option.{same_Some}
-use Rattle.std.specs.List.{flat_map, slice_get, AllByRecursion, AllZip}
+use Rattle.std.specs.List.{flat_map, slice_get, zip, AllByRecursion, AllZip}
 use Rattle.std.specs.Option.{MatchOption, option_to_list}
 use Rattle.hex.specs.Hex.{decode_of}
 use Rattle.batch_cutter.specs.Division.{Mark, message, timeout}
 use Rattle.fab_types.specs.declared.block.Block.{Block}
 use Rattle.fab_types.specs.declared.envelope.Envelope.{Envelope}
-use Rattle.ledger_model.specs.Chain.{Bytes}
+use Rattle.ledger_model.specs.Chain.{Bytes, Chain}
 use Rattle.orderer.specs.Making.{number_in}
 use Rattle.orderer.specs.Ordering.{IsTooLarge, Ordering}
 use Rattle.orderer.specs.declared.arrangement.AbortCause.{AbortCause}
@@ -26,15 +26,16 @@ use Rattle.log_orderer.specs.declared.skip.Skip.{Skip}
 use Rattle.log_orderer.specs.declared.skip.Skip.TheVariants.{NoHex, EndedEarly, EnvelopeLength, NotCanonical, Limit, BytesLeft, TooLarge, NoNumber}
 use Rattle.log_committer.specs.Peering.{Held}
 use Rattle.log_committer.specs.declared.receiving.Received.{Received}
-use Rattle.log_peer.specs.Peering.{IsBatchOf, IsOfBlock, IsReportOf, told_by, told_of}
+use Rattle.log_peer.specs.Peering.{IsBatchOf, IsOfBlock, IsReportOf, batches_in, told_by, told_of}
 use Rattle.log_peer.specs.declared.peering.PeerBatch.{PeerBatch}
 use Rattle.log_peer.specs.declared.peering.PeerReport.{PeerReport}
 use Rattle.log_peer.specs.declared.peering.PeerReport.TheVariants as peer
 use Rattle.cli_peer.specs.Alike.{SpellsNoEnvelope}
-use Rattle.cli_peer.specs.Logged.{TellsEntry, TellsReport, TellsSeen, TellsText, batch_text}
-use Rattle.cli_peer.specs.Printed.{read_text, skipped_text}
+use Rattle.cli_peer.specs.Logged.{TellsEntry, TellsReport, TellsSeen, TellsText, batch_text, block_text}
+use Rattle.cli_peer.specs.Printed.{left_out_text, read_text, skipped_text}
 use Rattle.peer_answers.specs.Seen.{IsUnsigned, Sighting, TellsFork}
 use Rattle.peer_answers.specs.declared.log_genesis.LogGenesis.{LogGenesis}
+use Rattle.cli_peer.proofs.Entries.{told_are}
 use Rattle.cli_peer.proofs.OneSighting.{one_fork, one_seen, one_unsigned}
 
 abbrev IsOneMark : Type 0
@@ -74,23 +75,7 @@ one_skip one old line a BytesLeft x y = inr (y.0, (y.1.0, y.1.1))
 
 -- ---- the batches that a line ended
 
-abbrev told_batches : PeerReport → List PeerBatch
-told_batches (peer.Accepted id batches) = batches
-told_batches (peer.Ticked batch) = option_to_list batch
-told_batches (peer.Skipped skip) = []
-
-told_are : (report : LineReport) (told : PeerReport) → IsReportOf report told → AllZip IsBatchOf (batches_of report) (told_batches told)
-told_are (line.Accepted id batches) (peer.Accepted told others) is = is.1
-told_are (line.Ticked batch) (peer.Ticked told) is = is
-told_are (line.Skipped skip) (peer.Skipped told) is = tt
-told_are (line.Accepted id batches) (peer.Ticked told) is = absurd is
-told_are (line.Accepted id batches) (peer.Skipped told) is = absurd is
-told_are (line.Ticked batch) (peer.Accepted told others) is = absurd is
-told_are (line.Ticked batch) (peer.Skipped told) is = absurd is
-told_are (line.Skipped skip) (peer.Accepted told others) is = absurd is
-told_are (line.Skipped skip) (peer.Ticked told) is = absurd is
-
-told_is : (told : PeerReport) → told_by told ≡ told_of (told_batches told)
+told_is : (told : PeerReport) → told_by told ≡ told_of (batches_in told)
 told_is (peer.Accepted id batches) = refl
 told_is (peer.Ticked batch) = refl
 told_is (peer.Skipped skip) = refl
@@ -120,34 +105,40 @@ one_received (Some a) (Some b) (Some r) None ts us x y number same = absurd y
 abbrev HasNumber : LogBatch → Type 0
 HasNumber batch = batch.report.block ≡ number_in batch.block
 
-one_batch : (x y : LogBatch) (u v : PeerBatch) (e : List Envelope) (ts us : List Received) → IsBatchOf x u → IsBatchOf y v → x.report ≡ y.report →
-    IsNamed e x → IsNamed e y → HasNumber x → HasNumber y → option_to_list u.received ++ ts ≡ option_to_list v.received ++ us → (u ≡ v) × (ts ≡ us)
-one_batch x y u v e ts us is_x is_y report named other own its same =
+-- what is told of a batch by a chain is told by the chain, whoever hands its block out
+text_of : (chain : Chain) (u v : PeerBatch) → u.report ≡ v.report → u.aborted ≡ v.aborted → u.received ≡ v.received → batch_text chain u ≡ batch_text chain v
+text_of chain u v report aborted received =
+    λ i. flat_map left_out_text (zip (aborted i) (report i).aborted) ++ block_text chain (report i).block (received i)
+
+one_batch : (chain : Chain) (x y : LogBatch) (u v : PeerBatch) (e : List Envelope) (ts us : List Received) → IsBatchOf x u → IsBatchOf y v →
+    x.report ≡ y.report → IsNamed e x → IsNamed e y → HasNumber x → HasNumber y →
+    option_to_list u.received ++ ts ≡ option_to_list v.received ++ us → (batch_text chain u ≡ batch_text chain v) × (ts ≡ us)
+one_batch chain x y u v e ts us is_x is_y report named other own its same =
     let left = λ (r : BatchReport). map (λ (l : ℕ × AbortCause). slice_get (ids_of e) l.0) r.aborted in
     let aborted : x.aborted ≡ y.aborted = some_same x.aborted y.aborted (named ∙ ap left report ∙ sym other) in
     let number : number_in x.block ≡ number_in y.block = sym own ∙ ap (λ (r : BatchReport). r.block) report ∙ its in
     let got = one_received x.block y.block u.received v.received ts us is_x.2 is_y.2 number same in
     let reports : u.report ≡ v.report = is_x.0 ∙ report ∙ sym is_y.0 in
     let ids : u.aborted ≡ v.aborted = is_x.1 ∙ aborted ∙ sym is_y.1 in
-    (λ i. record { report = reports i; aborted = ids i; received = got.0 i }, got.1)
+    (text_of chain u v reports ids got.0, got.1)
 
-one_told : (xs ys : List LogBatch) (us vs : List PeerBatch) (cut : List (List Envelope)) → AllZip IsBatchOf xs us → AllZip IsBatchOf ys vs →
-    reports_of xs ≡ reports_of ys → AllZip IsNamed cut xs → AllZip IsNamed cut ys → AllByRecursion HasNumber xs → AllByRecursion HasNumber ys →
-    told_of us ≡ told_of vs → us ≡ vs
-one_told [] [] [] [] cut a b reports named other own its told = refl
-one_told [] (y ∷ ys) us vs cut a b reports named other own its told = absurd (cc reports)
-one_told (x ∷ xs) [] us vs cut a b reports named other own its told = absurd (cc reports)
-one_told [] [] (u ∷ us) vs cut a b reports named other own its told = absurd a
-one_told [] [] [] (v ∷ vs) cut a b reports named other own its told = absurd b
-one_told (x ∷ xs) (y ∷ ys) [] vs cut a b reports named other own its told = absurd a
-one_told (x ∷ xs) (y ∷ ys) (u ∷ us) [] cut a b reports named other own its told = absurd b
-one_told (x ∷ xs) (y ∷ ys) (u ∷ us) (v ∷ vs) [] a b reports named other own its told = absurd named
-one_told (x ∷ xs) (y ∷ ys) (u ∷ us) (v ∷ vs) (e ∷ es) a b reports named other own its told =
+one_told : (chain : Chain) (xs ys : List LogBatch) (us vs : List PeerBatch) (cut : List (List Envelope)) → AllZip IsBatchOf xs us →
+    AllZip IsBatchOf ys vs → reports_of xs ≡ reports_of ys → AllZip IsNamed cut xs → AllZip IsNamed cut ys → AllByRecursion HasNumber xs →
+    AllByRecursion HasNumber ys → told_of us ≡ told_of vs → flat_map (batch_text chain) us ≡ flat_map (batch_text chain) vs
+one_told chain [] [] [] [] cut a b reports named other own its told = refl
+one_told chain [] (y ∷ ys) us vs cut a b reports named other own its told = absurd (cc reports)
+one_told chain (x ∷ xs) [] us vs cut a b reports named other own its told = absurd (cc reports)
+one_told chain [] [] (u ∷ us) vs cut a b reports named other own its told = absurd a
+one_told chain [] [] [] (v ∷ vs) cut a b reports named other own its told = absurd b
+one_told chain (x ∷ xs) (y ∷ ys) [] vs cut a b reports named other own its told = absurd a
+one_told chain (x ∷ xs) (y ∷ ys) (u ∷ us) [] cut a b reports named other own its told = absurd b
+one_told chain (x ∷ xs) (y ∷ ys) (u ∷ us) (v ∷ vs) [] a b reports named other own its told = absurd named
+one_told chain (x ∷ xs) (y ∷ ys) (u ∷ us) (v ∷ vs) (e ∷ es) a b reports named other own its told =
     let first : x.report ≡ y.report = cc reports in
     let later : reports_of xs ≡ reports_of ys = cc reports in
-    let got = one_batch x y u v e (told_of us) (told_of vs) a.0 b.0 first named.0 other.0 own.0 its.0 told in
-    let rest = one_told xs ys us vs es a.1 b.1 later named.1 other.1 own.1 its.1 got.1 in
-    ap (λ (w : PeerBatch). w ∷ us) got.0 ∙ ap (λ (ws : List PeerBatch). v ∷ ws) rest
+    let got = one_batch chain x y u v e (told_of us) (told_of vs) a.0 b.0 first named.0 other.0 own.0 its.0 told in
+    let rest = one_told chain xs ys us vs es a.1 b.1 later named.1 other.1 own.1 its.1 got.1 in
+    ap₂ (λ (front back : Bytes). front ++ back) got.0 rest
 
 -- the line tells the ids of what its mark cut
 named_by : IsOneMark → (a : LineReport) (old : Ordering) (said : Bytes) (mark : Mark Envelope) (reports : List BatchReport) → answer_of a ≡ Some reports →
@@ -159,25 +150,26 @@ named_by one (line.Ticked batch) old said mark reports answer is ids =
 named_by one (line.Skipped skip) old said mark reports answer is ids = absurd (cc answer)
 
 -- two reports of one line, which was not skipped, and with one list of what their blocks came to, tell the same batches
-one_report : IsOneMark → (old new next other : Ordering) (said : Bytes) (a b : LineReport) (t u : PeerReport) →
+one_report : IsOneMark → (chain : Chain) (old new next other : Ordering) (said : Bytes) (a b : LineReport) (t u : PeerReport) →
     answer_of a ≡ Some (reports_of (batches_of a)) → answer_of b ≡ Some (reports_of (batches_of b)) → answer_of a ≡ answer_of b →
     Reads old said (answer_of a) new → IsReportOf a t → IsReportOf b u → TellsIds a old said → TellsIds b old said → HandsOut a old.chain next.chain →
-    HandsOut b old.chain other.chain → told_by t ≡ told_by u → told_batches t ≡ told_batches u
-one_report one old new next other said a b t u some_a some_b same reads is_t is_u ids its has have told =
+    HandsOut b old.chain other.chain → told_by t ≡ told_by u →
+    flat_map (batch_text chain) (batches_in t) ≡ flat_map (batch_text chain) (batches_in u)
+one_report one chain old new next other said a b t u some_a some_b same reads is_t is_u ids its has have told =
     let taken = subst (λ (r : Option (List BatchReport)). Reads old said r new) some_a reads in
     let mark = taken.0 in
     let takes = taken.2.0 in
     let named = named_by one a old said mark (reports_of (batches_of a)) some_a taken.1 ids takes.batches new.pending takes.cut in
     let others = named_by one b old said mark (reports_of (batches_of b)) some_b taken.1 its takes.batches new.pending takes.cut in
     let reports = same_Some (reports_of (batches_of a)) (reports_of (batches_of b)) (sym some_a ∙ same ∙ some_b) in
-    one_told (batches_of a) (batches_of b) (told_batches t) (told_batches u) takes.batches (told_are a t is_t) (told_are b u is_u) reports named others
+    one_told chain (batches_of a) (batches_of b) (batches_in t) (batches_in u) takes.batches (told_are a t is_t) (told_are b u is_u) reports named others
     has.own have.own (sym (told_is t) ∙ told ∙ told_is u)
 
 -- ---- what is printed of a line
 
 abbrev TellsBatches : PeerReport → Type 0
 TellsBatches t = (log : LogGenesis) (held : Held) (index said text : Bytes) → TellsReport log held index said t text →
-    text ≡ flat_map (batch_text held.chain) (told_batches t)
+    text ≡ flat_map (batch_text held.chain) (batches_in t)
 
 abbrev WasSkipped : LineReport → PeerReport → Type 0
 WasSkipped a t = (skip : Skip) × (a ≡ line.Skipped skip) × (t ≡ peer.Skipped skip)
@@ -243,11 +235,8 @@ module _ (one : IsOneMark) (log : LogGenesis) (old : Ordering) (now : Held) (ind
   told_once next other text said_text (inr x) (inl y) reads ids its has have why cause told tells says =
       absurd (let none = ap answer_of y.1 in let some = x.0 in cc)
   told_once next other text said_text (inr x) (inr y) reads ids its has have why cause told tells says =
-      let batches = one_report one old next next other said a b t u x.0 y.0 same reads is_t is_u ids its has have told in
-      inl (
-      x.1 log now index said text tells ∙ ap (λ (bs : List PeerBatch). flat_map (batch_text now.chain) bs) batches
-      ∙ sym (y.1 log now index said said_text says)
-      )
+      let batches = one_report one now.chain old next next other said a b t u x.0 y.0 same reads is_t is_u ids its has have told in
+      inl (x.1 log now index said text tells ∙ batches ∙ sym (y.1 log now index said said_text says))
 
   -- with that it was read
   pub entry_once : (next other : Ordering) (text said_text : Bytes) → Reads old said (answer_of a) next → TellsIds a old said → TellsIds b old said →

@@ -1,5 +1,5 @@
 -- Two peers that read one log are in one state, and print one text of a line.
-use Rattle.std.proofs.Common.{◌≡◌, ◌≢◌, ◌⊎◌, ◌∙◌, ◌++◌, ◌+◌, inl, ℕ, List, [], ◌∷◌, Option, Some, None, Result, Ok, ap, ap₂, refl, subst, sym}
+use Rattle.std.proofs.Common.{◌≡◌, ◌≢◌, ◌⊎◌, ◌∙◌, ◌++◌, ◌+◌, inl, inr, ℕ, false, List, [], ◌∷◌, Option, Some, None, Result, Ok, ap, ap₂, refl, subst, sym}
 use Rattle.std.proofs.lemmas.List.{append_cancel_left}
 use Rattle.std.specs.Str.Lossy.{utf8_lossy}
 use Rattle.batch_cutter.specs.Division.{Mark}
@@ -19,7 +19,7 @@ use Rattle.log_committer.specs.Peering.{Held, ReadsLine, made_by}
 use Rattle.log_committer.specs.declared.receiving.Received.{Received}
 use Rattle.log_committer.specs.declared.refusal.ReceiveRefusal.{ReceiveRefusal}
 use Rattle.log_peer.specs.Peering.{told_by}
-use Rattle.cli_peer.specs.Alike.{AreAlike, LogsNoEnvelope, SpellsNoEnvelope, logged_by, logged_in}
+use Rattle.cli_peer.specs.Alike.{AreAlike, AsksForBlocks, LogsNoEnvelope, ReadsBack, SpellsNoEnvelope, logged_by, logged_in}
 use Rattle.peer_answers.specs.Answering.{Peer}
 use Rattle.cli_peer.specs.Filters.{AreDone}
 use Rattle.peer_answers.specs.Lines.{Asks, Logs, Said, said_in}
@@ -126,15 +126,24 @@ entry_alike laws log old new other index said text out x y =
     entry_once laws.mark log old.held.log other.held index said x.report y.report x.told y.told x.is y.is same.0 new.held.log other.held.log text out
     x.reads.reads x.reads.ids y.reads.ids x.reads.blocks y.reads.blocks x.reads.why y.reads.why same.1.0 tells y.tells
 
+-- one text, but for bytes that spell no envelope, and for what a file gives back
+abbrev SaysOne : Peer → (text out : Bytes) → Option Said → Type 0
+SaysOne p text out s = ((text ≡ out) ⊎ LogsNoEnvelope s) ⊎ ((p.keeps ≡ false) × AsksForBlocks s)
+
 said_once : AreOne → AreSpellings → (p : Peer) (number : ℕ) (old new other : Reached) (l text out : Bytes) (s : Option Said) →
-    DoesSaid p number old l s text new → DoesSaid p number old l s out other → (new ≡ other) × ((text ≡ out) ⊎ LogsNoEnvelope s)
+    DoesSaid p number old l s text new → DoesSaid p number old l s out other → (new ≡ other) × SaysOne p text out s
 said_once laws spellings p number old new other l text out (Some (Logs index said)) x y =
-    (logged_once laws p.log old new other index index said text out x y, entry_alike laws p.log old new other index said text out x y)
-said_once laws spellings p number old new other l text out (Some (Asks request tag words)) x y =
-    (x.1 ∙ sym y.1, inl (one_asked spellings p number old.held.chain l request tag words text out x.0 y.0))
-said_once laws spellings p number old new other l text out None x y = (x.1 ∙ sym y.1, inl (x.0 ∙ sym y.0))
+    (logged_once laws p.log old new other index index said text out x y, inl (entry_alike laws p.log old new other index said text out x y))
+said_once laws spellings p number old new other l text out (Some (Asks request tag words)) x y = (
+  x.1 ∙ sym y.1,
+  elim (one_asked spellings p number old.held.chain l request tag words text out x.0 y.0) [
+    | inl same ↦ inl (inl same)
+    | inr read ↦ inr read
+  ],
+)
+said_once laws spellings p number old new other l text out None x y = (x.1 ∙ sym y.1, inl (inl (x.0 ∙ sym y.0)))
 
 pub answer_once : AreOne → AreSpellings → (p : Peer) (number : ℕ) (old new other : Reached) (l text out : Bytes) → DoesLine p number old l text new →
-    DoesLine p number old l out other → (new ≡ other) × AreAlike l text out
+    DoesLine p number old l out other → (new ≡ other) × (AreAlike l text out ⊎ ReadsBack p l)
 answer_once laws spellings p number old new other l text out x y =
     said_once laws spellings p number old new other l text out (said_in (utf8_lossy l)) x y

@@ -11,7 +11,7 @@ use Rattle.log_committer.specs.Committing.{block_at}
 use Rattle.log_committer.specs.Peering.{Held, ReadsLine}
 use Rattle.log_committer.specs.declared.receiving.Received.{Received}
 use Rattle.log_committer.specs.declared.receiving.Received.TheVariants as received
-use Rattle.log_peer.specs.Peering.{IsNotRead, IsReportOf, told_by}
+use Rattle.log_peer.specs.Peering.{AreJoined, IsJoinedIn, IsNotRead, IsReportOf, told_by}
 use Rattle.log_peer.specs.Refusals.{store_text}
 use Rattle.log_peer.specs.declared.peering.PeerBatch.{PeerBatch}
 use Rattle.log_peer.specs.declared.peering.PeerReport.{PeerReport}
@@ -35,6 +35,10 @@ abbrev pub block_text : Chain → Option ℕ → Option Received → Bytes
 block_text chain (Some number) (Some received.Committed) = joined_text number (block_at chain number)
 block_text chain (Some number) (Some received.Known) = line (codes "known " ++ decimal number)
 block_text chain number received = []
+
+-- the block of a batch is handed out where it joined the chain, and stands there
+abbrev pub IsHandedOut : Chain → PeerBatch → Type 0
+IsHandedOut chain batch = AreJoined batch.received batch.joined × IsJoinedIn chain batch
 
 -- of a batch: what it leaves out, and then its block
 abbrev pub batch_text : Chain → PeerBatch → Bytes

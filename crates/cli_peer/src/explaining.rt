@@ -13,6 +13,7 @@ use log_orderer::Skip;
 use log_peer::StoreRefusal;
 use peer_answers::{Answer, CallRefusal, Request, number_in};
 use std::alloc::{AllocError, Global};
+use store_devices::BlockFault;
 use store_replay::RecommitRefusal;
 
 /// What is wrong with a text that is no mark.
@@ -39,6 +40,17 @@ const KEYLESS: &str =
 /// What is wrong with an amendment that comes as a call.
 const NOT_AGREED: &str =
     "it is an amendment; send it behind `agreed` if the organisation agrees to it (409)";
+
+/// What is wrong with a record in whose place other bytes stand, and what to do.
+const SPOILT: &str =
+    "cannot be read back: other bytes stand there; stop the peer, and look at the disk";
+
+/// What is wrong where a record is not read at all, and what to do.
+const UNREAD: &str =
+    "cannot be read back: the file is cut short, or the disk fails; stop the peer, and look at it";
+
+/// What is wrong where a growth of memory was refused.
+const NO_MEMORY: &str = "there is no memory for it; begin again when there is some (9)";
 
 /// What is wrong with digits that ask for no block.
 const NO_NUMBER: &str = "it is no number of a block, or one that begins with 0";
@@ -79,7 +91,7 @@ pub(crate) fn explain_cut<F: Files>(
     alloc: Global,
     files: &mut F,
     name: &str,
-    height: usize,
+    height: u32,
     cut: usize,
 )
     ensures kept { F.bytes files.new ≡ F.bytes files.old }
@@ -115,10 +127,7 @@ fn store_words(alloc: Global, refusal: &StoreRefusal) -> Result<String, AllocErr
             format!(in alloc; "a block is refused ({number})")
         }
         StoreRefusal::Memory | StoreRefusal::Stored(RecommitRefusal::Memory) => {
-            String::from_str(
-                alloc,
-                "there is no memory for it; begin again when there is some (9)",
-            )
+            String::from_str(alloc, NO_MEMORY)
         }
         StoreRefusal::File => format!(in alloc; "{NOT_WRITTEN} (703)"),
     }
@@ -150,10 +159,11 @@ pub(crate) fn explain_no_line<F: Files>(alloc: Global, files: &mut F, line: u64)
 }
 
 /// Says why the line of this number, which asks for something in these words, is not answered as it
-/// asks, if that is so.
+/// asks, if that is so. The store has this name.
 pub(crate) fn explain_answer<F: Files>(
     alloc: Global,
     files: &mut F,
+    store: &str,
     line: u64,
     request: Request,
     words: &str,
@@ -170,6 +180,7 @@ pub(crate) fn explain_answer<F: Files>(
             let words = bad_words(alloc, request, words);
             explain(alloc, files, &place, words);
         }
+        Answer::Lost(fault) => explain(alloc, files, &place, lost_words(alloc, store, *fault)),
         Answer::Endorsed { .. } | Answer::Seen { .. } | Answer::Json(_) => {}
     }
 }
@@ -181,6 +192,17 @@ fn refusal_words(alloc: Global, refusal: &CallRefusal) -> Result<String, AllocEr
         CallRefusal::Keyless => String::from_str(alloc, KEYLESS),
         CallRefusal::NotAgreed => String::from_str(alloc, NOT_AGREED),
         CallRefusal::Simulation(refusal) => simulation_words(alloc, refusal),
+    }
+}
+
+/// Why a block is not read back from the store of a name, in words that end with the number.
+fn lost_words(alloc: Global, store: &str, fault: BlockFault) -> Result<String, AllocError> {
+    match fault {
+        BlockFault::Damaged(block) => {
+            format!(in alloc; "the record of block {block} in {store} {SPOILT} (702)")
+        }
+        BlockFault::Device => format!(in alloc; "a record in {store} {UNREAD} (703)"),
+        BlockFault::Memory => String::from_str(alloc, NO_MEMORY),
     }
 }
 

@@ -1,13 +1,13 @@
 //! When a block that an organisation says it has is told as a fork.
 
-ghost use Rattle.std.specs.Prelude.{◌≡◌, [], IfErr, OnErr, OnOk, option_map, if◌then◌else◌};
+ghost use Rattle.std.specs.Prelude.{◌≡◌, [], IfErr, OnErr, OnOk, Option, option_map, if◌then◌else◌};
 ghost use Rattle.cli_lines.specs.Told.{IsBrokenOff, Prints, PrintsNothing, Tells};
+ghost use Rattle.fab_types.specs.Committed.{Committed};
+ghost use Rattle.log_committer.specs.Committing.{header_hash};
 ghost use Rattle.peer_answers.specs.Seen.{forked_text, has_hash};
 
 use cli_lines::{Failure, Printer};
-use fab_types::CommittedBlock;
 use std::io::Write;
-use wire::header_hash;
 
 /// Prints that an organisation has another block of a number, unless it is not to be told.
 pub(crate) fn print_unless<W: Write>(
@@ -29,12 +29,13 @@ pub(crate) fn print_unless<W: Write>(
     }
 }
 
-/// Whether a block is there, and its header has this hash.
-pub(crate) fn has_hash(block: Option<&CommittedBlock>, hash: &[u8; 32]) -> bool
-    ensures { result ≡ has_hash hash.now (option_map (λ b. b.now) block.entry) }
+/// Whether a block is there whose header has this hash, by the hash that its header has.
+pub(crate) fn has_hash(own: Option<[u8; 32]>, hash: &[u8; 32]) -> bool
+    ensures { (block : Option Committed) → own ≡ option_map (λ c. header_hash c.block) block →
+        result ≡ has_hash hash.now block }
 {
-    match block {
-        Some(own) => header_hash(&own.block().header) == *hash,
+    match own {
+        Some(own) => own == *hash,
         None => false,
     }
 }

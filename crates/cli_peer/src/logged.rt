@@ -1,13 +1,14 @@
 //! What a peer prints of a line of the log.
 
-ghost use Rattle.std.specs.Prelude.{◌≡◌, IfErr, IfOk, OnErr, OnOk};
+ghost use Rattle.std.specs.Prelude.{◌≡◌, All, IfErr, IfOk, OnErr, OnOk, option_map};
 ghost use Rattle.std.specs.List.{flat_map};
 ghost use Rattle.cli_lines.specs.Told.{Begins, IsBrokenOff, Prints, PrintsNothing, PrintsPart};
 ghost use Rattle.cli_lines.specs.Told.{Tells};
 ghost use Rattle.log_committer.specs.Committing.{block_at};
-ghost use Rattle.log_peer.specs.Peering.{held_by};
+ghost use Rattle.log_peer.specs.Peering.{IsPeer, batches_in, held_by};
 ghost use Rattle.cli_peer.specs.Filters.{PrintsSo};
-ghost use Rattle.cli_peer.specs.Logged.{TellsEntry, TellsReport, TellsText, batch_text, block_text};
+ghost use Rattle.cli_peer.specs.Logged.{IsHandedOut, TellsEntry, TellsReport, TellsText};
+ghost use Rattle.cli_peer.specs.Logged.{batch_text, block_text};
 ghost use Rattle.cli_peer.specs.Printed.{joined_text};
 ghost use Rattle.peer_answers.specs.Seen.{IsUnsigned, TellsFork, is_fork, sighting_of};
 
@@ -17,6 +18,7 @@ use crate::forks::{has_hash, print_unless};
 use crate::joined::print_joined;
 use cli_lines::{Failure, Files, Printer};
 use endorsement_policy::Standing;
+use fab_types::CommittedBlock;
 use log_committer::Received;
 use log_peer::{LogPeer, PeerBatch, PeerReport};
 use peer_answers::{
@@ -25,6 +27,7 @@ use peer_answers::{
 use std::alloc::{AllocError, Global};
 use std::io::Write;
 use store_devices::StoreFile;
+use world_state::Past;
 
 /// A log, and a peer that has read a line of it, by which is told what the line came to.
 #[derive(Drop)]
@@ -44,6 +47,9 @@ impl<D: StoreFile> Telling<'_, D> {
         report: &PeerReport,
         out: &mut Printer<'_, W>,
     ) -> Result<(), Failure>
+        requires stored { IsPeer self.now.peer.now }
+        requires joined { All (IsHandedOut (held_by self.now.peer.now).chain)
+            (batches_in report.now) }
         ensures prints { OnOk result (PrintsSo
             (TellsEntry self.now.log.now (held_by self.now.peer.now) entry.now.index.now
             entry.now.text.now report.now) out.old out.new) }
@@ -67,6 +73,9 @@ impl<D: StoreFile> Telling<'_, D> {
         report: &PeerReport,
         out: &mut Printer<'_, W>,
     ) -> Result<(), Failure>
+        requires stored { IsPeer self.now.peer.now }
+        requires joined { All (IsHandedOut (held_by self.now.peer.now).chain)
+            (batches_in report.now) }
         ensures prints { OnOk result (PrintsSo
             (TellsReport self.now.log.now (held_by self.now.peer.now) entry.now.index.now
             entry.now.text.now report.now) out.old out.new) }
@@ -95,6 +104,7 @@ impl<D: StoreFile> Telling<'_, D> {
         batches: &[PeerBatch],
         out: &mut Printer<'_, W>,
     ) -> Result<(), Failure>
+        requires joined { All (IsHandedOut (held_by self.now.peer.now).chain) batches.now }
         ensures prints { OnOk result
             (Prints out.old out.new (flat_map (batch_text (held_by self.now.peer.now).chain)
             batches.now)) }
@@ -116,6 +126,7 @@ impl<D: StoreFile> Telling<'_, D> {
         batch: &PeerBatch,
         out: &mut Printer<'_, W>,
     ) -> Result<(), Failure>
+        requires joined { IsHandedOut (held_by self.now.peer.now).chain batch.now }
         ensures prints { OnOk result
             (Prints out.old out.new (batch_text (held_by self.now.peer.now).chain batch.now)) }
         ensures part { OnErr result
@@ -125,37 +136,43 @@ impl<D: StoreFile> Telling<'_, D> {
     {
         let causes = batch.report.aborted.as_slice();
         print_aborted(self.alloc, batch.aborted.as_slice(), causes, out)?;
-        self.print_block(batch.report.block, batch.received, out)
+        self.print_block(batch, out)
     }
 
-    /// Prints what became of the block of a number, if there is one.
+    /// Prints what became of the block of a batch, if it has one.
     fn print_block<W: Write>(
         &self,
-        number: Option<u32>,
-        received: Option<Received>,
+        batch: &PeerBatch,
         out: &mut Printer<'_, W>,
     ) -> Result<(), Failure>
+        requires joined { IsHandedOut (held_by self.now.peer.now).chain batch.now }
         ensures prints { OnOk result
-            (Prints out.old out.new (block_text (held_by self.now.peer.now).chain number received)) }
+            (Prints out.old out.new (block_text (held_by self.now.peer.now).chain
+            batch.now.report.block batch.now.received)) }
         ensures part { OnErr result
-            (PrintsPart out.old out.new (block_text (held_by self.now.peer.now).chain number
-            received)) }
+            (PrintsPart out.old out.new (block_text (held_by self.now.peer.now).chain
+            batch.now.report.block batch.now.received)) }
         ensures tells { Tells out.old out.new result }
         ensures lost { IfErr result IsBrokenOff }
     {
-        match (number, received) {
-            (Some(number), Some(Received::Committed)) => self.print_committed(number, out),
+        match (batch.report.block, batch.received) {
+            (Some(number), Some(Received::Committed)) => {
+                self.print_committed(number, batch.joined.as_ref(), out)
+            }
             (Some(number), Some(Received::Known)) => writeln!(out, "known {number}"),
             _ => Ok(()),
         }
     }
 
-    /// Prints the block of a number that joined the chain.
+    /// Prints the block of a number, which joined the chain.
     fn print_committed<W: Write>(
         &self,
         number: u32,
+        joined: Option<&CommittedBlock>,
         out: &mut Printer<'_, W>,
     ) -> Result<(), Failure>
+        requires joined { option_map (λ c. c.now) joined
+            ≡ block_at (held_by self.now.peer.now).chain number }
         ensures prints { OnOk result
             (Prints out.old out.new (joined_text number (block_at (held_by self.now.peer.now).chain
             number))) }
@@ -165,7 +182,7 @@ impl<D: StoreFile> Telling<'_, D> {
         ensures tells { Tells out.old out.new result }
         ensures lost { IfErr result IsBrokenOff }
     {
-        match self.peer.block(number) {
+        match joined {
             Some(block) => print_joined(self.alloc, number, block, out),
             None => Ok(()),
         }
@@ -175,6 +192,7 @@ impl<D: StoreFile> Telling<'_, D> {
     /// it is one. Who signed is judged by the chain. Without a signature it counts where the
     /// genesis gives no public key, by the blocks that the lines made.
     fn print_seen<W: Write>(&self, text: &str, out: &mut Printer<'_, W>) -> Result<(), Failure>
+        requires stored { IsPeer self.now.peer.now }
         ensures prints { OnOk result (PrintsSo
             (TellsText self.now.log.now (held_by self.now.peer.now) text.now) out.old out.new) }
         ensures nothing { OnErr result (PrintsNothing out.old out.new) }
@@ -212,6 +230,7 @@ impl<D: StoreFile> Telling<'_, D> {
     /// Prints that an organisation has signed that it has another block than the chain's, if a text
     /// says so.
     fn print_signed<W: Write>(&self, text: &str, out: &mut Printer<'_, W>) -> Result<(), Failure>
+        requires stored { IsPeer self.now.peer.now }
         ensures prints { OnOk result (PrintsSo
             (TellsFork self.now.log.now.genesis.rules.value self.now.log.now.digest (held_by
             self.now.peer.now).chain text.now) out.old out.new) }
@@ -233,15 +252,16 @@ impl<D: StoreFile> Telling<'_, D> {
     /// number, or none, and it is signed by who stands behind the chain. The signature is judged
     /// last.
     fn is_fork(&self, seen: &SignedSeen) -> Result<bool, AllocError>
+        requires stored { IsPeer self.now.peer.now }
         ensures { IfOk result
             (λ fork. fork ≡ is_fork self.now.log.now.genesis.rules.value self.now.log.now.digest
             (held_by self.now.peer.now).chain seen.now) }
     {
-        if has_hash(self.peer.block(seen.number), &seen.hash) {
+        if has_hash(self.peer.hash(seen.number), &seen.hash) {
             return Ok(false);
         }
-        let snapshot = self.peer.snapshot();
-        let standing = Standing::of(self.alloc, &self.log.genesis.rules, snapshot)?;
+        let state = self.peer.chain().map();
+        let standing = Standing::in_state(self.alloc, &self.log.genesis.rules, state)?;
         is_signed(self.alloc, &standing, &self.log.digest, seen)
     }
 }

@@ -9,7 +9,7 @@ use std::io::Write;
 
 /// Prints with how many blocks a store was opened, and how many bytes were cut off, if any.
 pub(crate) fn print_opened<W: Write>(
-    height: usize,
+    height: u32,
     cut: usize,
     out: &mut Printer<'_, W>,
 ) -> Result<(), Failure>

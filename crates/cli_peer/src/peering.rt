@@ -1,7 +1,7 @@
 //! The command `peer`.
 
 ghost use Rattle.std.specs.Prelude.{◌≡◌, ◌↔◌, ◌∷◌, [], Ok, Err, IfErr, IfOk, IsTrue, OnErr, OnOk};
-ghost use Rattle.std.specs.Prelude.{codes, false, true, IfSome, IsSome, MatchResult};
+ghost use Rattle.std.specs.Prelude.{codes, false, length, true, IfSome, IsSome, MatchResult};
 ghost use Rattle.std.specs.Str.{IsUtf8};
 ghost use Rattle.hex.specs.Hex.{encode_lower};
 ghost use Rattle.cli_lines.specs.Places.{ChangesOnly, opened_bytes};
@@ -23,7 +23,7 @@ ghost use Rattle.cli_peer.specs.Peering.{DoesAsked, DoesLine, EndsLine, Peers};
 ghost use Rattle.cli_peer.specs.Peering.{PeersBegin, PeersLines, bad_text};
 ghost use Rattle.cli_peer.specs.Rounds.{IsRound, left_behind};
 ghost use Rattle.peer_answers.specs.Known.{IsKnown};
-ghost use Rattle.cli_peer.specs.Running.{IsReader, reached};
+ghost use Rattle.cli_peer.specs.Running.{IsReader, IsSound, reached};
 ghost use Rattle.cli_peer.specs.Setting.{asked_by};
 ghost use Rattle.peer_answers.specs.Setting.{peer_of};
 ghost use Rattle.peer_answers.specs.Spoken.{answer_text};
@@ -48,6 +48,7 @@ use std::io::{Read, Write};
 use std::thread::Threads;
 use store_devices::StoreFile;
 use store_replay::{TagChecks, Watch};
+use world_state::Past;
 
 /// What is said of a log whose first line leaves open which genesis file counts.
 const LEFT_OPEN: &str =
@@ -97,11 +98,11 @@ pub fn peer<T: Threads + Sync, F: Files, W: Write>(
 ) -> Result<(), Failure>
     ensures tells { Tells out.old out.new result }
     ensures answers { Answers
-        (Peers (asked_by log.now asked.now)
+        (Peers (asked_by F.is_known log.now asked.now)
         (opened_bytes F.is_known (F.bytes files.old asked.now.store.now))
         (F.input_bytes files.old)) out.old out.new result }
     ensures begins { Begins
-        (PeersBegin (asked_by log.now asked.now)
+        (PeersBegin (asked_by F.is_known log.now asked.now)
         (opened_bytes F.is_known (F.bytes files.old asked.now.store.now))
         (F.input_bytes files.old)) out.old out.new result }
     // Where it is known what is written, the whole records that the store held stand first in it. At
@@ -109,10 +110,10 @@ pub fn peer<T: Threads + Sync, F: Files, W: Write>(
     ensures keeps { KeepsStore F.is_known asked.now.store.now (F.bytes files.old)
         (F.bytes files.new) }
     ensures holds { OnOk result
-        (HoldsReached F.is_known (asked_by log.now asked.now) asked.now.store.now
+        (HoldsReached F.is_known (asked_by F.is_known log.now asked.now) asked.now.store.now
         (F.input_bytes files.old) (F.bytes files.old) (F.bytes files.new)) }
     // Whatever this answers, also where it is broken off, the store has each block that was told.
-    ensures told { KeepsTold F.is_known (asked_by log.now asked.now) asked.now.store.now
+    ensures told { KeepsTold F.is_known (asked_by F.is_known log.now asked.now) asked.now.store.now
         (F.input_bytes files.old) (F.bytes files.old) (F.bytes files.new) out.old out.new }
     // No other file is changed then.
     ensures others { ChangesOnly F.is_known (asked.now.store.now ∷ []) (F.bytes files.old)
@@ -191,20 +192,22 @@ fn peer_to<T: Threads + Sync, F: Files, V: Watch + Drop, R: Read + Drop, W: Writ
     requires there { F.is_known ≡ true →
         F.Store.contents file ≡ F.bytes files.old setting.now.store.now }
     requires made { F.is_known ≡ true → IsSome (F.bytes files.old setting.now.store.now) }
+    requires known { F.Store.is_known ≡ F.is_known }
     ensures tells { Tells out.old out.new result }
     ensures answers { Answers
-        (Peers (peer_of setting.now.answering) (F.Store.contents file) lines.old.left) out.old
-        out.new result }
+        (Peers (peer_of F.Store.is_known setting.now.answering) (F.Store.contents file)
+        lines.old.left) out.old out.new result }
     ensures begins { Begins
-        (PeersBegin (peer_of setting.now.answering) (F.Store.contents file) lines.old.left) out.old
-        out.new result }
+        (PeersBegin (peer_of F.Store.is_known setting.now.answering) (F.Store.contents file)
+        lines.old.left) out.old out.new result }
     ensures keeps { KeepsStore F.is_known setting.now.store.now (F.bytes files.old)
         (F.bytes files.new) }
     ensures holds { OnOk result
-        (HoldsReached F.is_known (peer_of setting.now.answering) setting.now.store.now
-        lines.old.left (F.bytes files.old) (F.bytes files.new)) }
-    ensures told { KeepsTold F.is_known (peer_of setting.now.answering) setting.now.store.now
-        lines.old.left (F.bytes files.old) (F.bytes files.new) out.old out.new }
+        (HoldsReached F.is_known (peer_of F.Store.is_known setting.now.answering)
+        setting.now.store.now lines.old.left (F.bytes files.old) (F.bytes files.new)) }
+    ensures told { KeepsTold F.is_known (peer_of F.Store.is_known setting.now.answering)
+        setting.now.store.now lines.old.left (F.bytes files.old) (F.bytes files.new) out.old
+        out.new }
     ensures others { ChangesOnly F.is_known (setting.now.store.now ∷ []) (F.bytes files.old)
         (F.bytes files.new) }
 {
@@ -227,7 +230,7 @@ fn peer_to<T: Threads + Sync, F: Files, V: Watch + Drop, R: Read + Drop, W: Writ
 }
 
 /// Prints with how many blocks a store was opened, and does each line.
-fn peer_behind<T: Threads + Sync, F: Files, D: StoreFile, R: Read + Drop, W: Write>(
+fn peer_behind<T: Threads + Sync, F: Files, D: StoreFile + Sync, R: Read + Drop, W: Write>(
     files: &mut F,
     setting: &Setting<'_, T>,
     reader: &mut Reader<D>,
@@ -235,28 +238,36 @@ fn peer_behind<T: Threads + Sync, F: Files, D: StoreFile, R: Read + Drop, W: Wri
     lines: &mut InputLines<R>,
     out: &mut Printer<'_, W>,
 ) -> Result<(), Failure>
-    requires reader { IsReader setting.now.answering.log.now reader.old }
+    requires reader { IsReader D.is_known D.contents setting.now.answering.log.now reader.old }
     ensures tells { Tells out.old out.new result }
     ensures answers { Answers
         (λ answer text. ComesBehind (held_by reader.old.peer).chain cut
-        (PeersLines (peer_of setting.now.answering) (reached reader.old) lines.old.left answer)
-        text)
+        (PeersLines (peer_of D.is_known setting.now.answering) (reached reader.old) lines.old.left
+        answer) text)
         out.old out.new result }
     ensures told { BeginsSo
         (ComesBehind (held_by reader.old.peer).chain cut
-        (TellsLines D.contents (peer_of setting.now.answering) reader.old reader.new
+        (TellsLines D.contents (peer_of D.is_known setting.now.answering) reader.old reader.new
         lines.old.left)) out.old out.new }
     ensures leads { OnOk result
-        (LeadTo (peer_of setting.now.answering) (reached reader.old) lines.old.left
+        (LeadTo (peer_of D.is_known setting.now.answering) (reached reader.old) lines.old.left
         (reached reader.new)) }
     ensures stores { StoresOn D.contents reader.old.peer reader.new.peer result }
     ensures kept { F.bytes files.new ≡ F.bytes files.old }
 {
-    let height = reader.peer.snapshot().height();
+    let height = height_of(&reader.peer);
     explain_cut(setting.answering.alloc, files, setting.store, height, cut);
     print_opened(height, cut, out)?;
     remark_place(files, setting, &reader.peer);
     peer_lines(files, setting, reader, lines, out)
+}
+
+/// How many blocks the chain of a peer has.
+fn height_of<D: StoreFile>(peer: &LogPeer<D>) -> u32
+    requires { IsPeer peer.now }
+    ensures { result ≡ length (held_by peer.now).chain }
+{
+    peer.chain().height()
 }
 
 /// Says where the organisation of a peer can endorse nothing behind the store.
@@ -271,7 +282,7 @@ fn remark_place<T, F: Files, D: StoreFile>(
     let Some(org) = org else {
         return;
     };
-    match place_in(alloc, &log.genesis, peer.snapshot(), org) {
+    match place_in(alloc, &log.genesis, peer.chain().map(), org) {
         Ok(Place::Stranger) => files.remark(NO_MEMBER),
         Ok(Place::Keyless) => files.remark(NO_SEED),
         Ok(Place::Stands) | Err(_) => {}
@@ -279,23 +290,23 @@ fn remark_place<T, F: Files, D: StoreFile>(
 }
 
 /// Does each line.
-fn peer_lines<T: Threads + Sync, F: Files, D: StoreFile, R: Read + Drop, W: Write>(
+fn peer_lines<T: Threads + Sync, F: Files, D: StoreFile + Sync, R: Read + Drop, W: Write>(
     files: &mut F,
     setting: &Setting<'_, T>,
     reader: &mut Reader<D>,
     lines: &mut InputLines<R>,
     out: &mut Printer<'_, W>,
 ) -> Result<(), Failure>
-    requires reader { IsReader setting.now.answering.log.now reader.old }
+    requires reader { IsReader D.is_known D.contents setting.now.answering.log.now reader.old }
     ensures tells { Tells out.old out.new result }
     ensures answers { Answers
-        (PeersLines (peer_of setting.now.answering) (reached reader.old) lines.old.left) out.old
-        out.new result }
+        (PeersLines (peer_of D.is_known setting.now.answering) (reached reader.old) lines.old.left)
+        out.old out.new result }
     ensures told { BeginsSo
-        (TellsLines D.contents (peer_of setting.now.answering) reader.old reader.new
+        (TellsLines D.contents (peer_of D.is_known setting.now.answering) reader.old reader.new
         lines.old.left) out.old out.new }
     ensures leads { OnOk result
-        (LeadTo (peer_of setting.now.answering) (reached reader.old) lines.old.left
+        (LeadTo (peer_of D.is_known setting.now.answering) (reached reader.old) lines.old.left
         (reached reader.new)) }
     ensures stores { StoresOn D.contents reader.old.peer reader.new.peer result }
     ensures kept { F.bytes files.new ≡ F.bytes files.old }
@@ -305,7 +316,7 @@ fn peer_lines<T: Threads + Sync, F: Files, D: StoreFile, R: Read + Drop, W: Writ
 }
 
 /// Does each line that is left of a round and of the input behind it.
-fn do_lines<T: Threads + Sync, F: Files, D: StoreFile, R: Read + Drop, W: Write>(
+fn do_lines<T: Threads + Sync, F: Files, D: StoreFile + Sync, R: Read + Drop, W: Write>(
     files: &mut F,
     setting: &Setting<'_, T>,
     reader: &mut Reader<D>,
@@ -313,18 +324,18 @@ fn do_lines<T: Threads + Sync, F: Files, D: StoreFile, R: Read + Drop, W: Write>
     lines: &mut InputLines<R>,
     out: &mut Printer<'_, W>,
 ) -> Result<(), Failure>
-    requires reader { IsReader setting.now.answering.log.now reader.old }
-    requires round { IsRound (peer_of setting.now.answering) (held_by reader.old.peer).chain
-        round.old }
+    requires reader { IsReader D.is_known D.contents setting.now.answering.log.now reader.old }
+    requires round { IsRound (peer_of D.is_known setting.now.answering)
+        (held_by reader.old.peer).chain round.old }
     ensures tells { Tells out.old out.new result }
     ensures answers { Answers
-        (PeersLines (peer_of setting.now.answering) (reached reader.old)
+        (PeersLines (peer_of D.is_known setting.now.answering) (reached reader.old)
         (left_behind round.old.lines.items lines.old.left)) out.old out.new result }
     ensures told { BeginsSo
-        (TellsLines D.contents (peer_of setting.now.answering) reader.old reader.new
+        (TellsLines D.contents (peer_of D.is_known setting.now.answering) reader.old reader.new
         (left_behind round.old.lines.items lines.old.left)) out.old out.new }
     ensures leads { OnOk result
-        (LeadTo (peer_of setting.now.answering) (reached reader.old)
+        (LeadTo (peer_of D.is_known setting.now.answering) (reached reader.old)
         (left_behind round.old.lines.items lines.old.left) (reached reader.new)) }
     ensures stores { StoresOn D.contents reader.old.peer reader.new.peer result }
     ensures kept { F.bytes files.new ≡ F.bytes files.old }
@@ -335,8 +346,8 @@ fn do_lines<T: Threads + Sync, F: Files, D: StoreFile, R: Read + Drop, W: Write>
         ..
     } = setting;
     for number in 1..u64::MAX {
-        let snapshot = reader.peer.snapshot();
-        let there = round.next(files, workers, answering, snapshot, lines, out)?;
+        let blocks = reader.peer.blocks();
+        let there = round.next(files, workers, answering, blocks, lines, out)?;
         if !there {
             return Ok(());
         }
@@ -348,7 +359,7 @@ fn do_lines<T: Threads + Sync, F: Files, D: StoreFile, R: Read + Drop, W: Write>
 
 /// Does the line of a round, which has this number. What is known of the answers to the lines
 /// behind it is thrown away where the chain may grow.
-fn take_line<T: Threads + Sync, F: Files, D: StoreFile, W: Write>(
+fn take_line<T: Threads + Sync, F: Files, D: StoreFile + Sync, W: Write>(
     files: &mut F,
     setting: &Setting<'_, T>,
     reader: &mut Reader<D>,
@@ -356,26 +367,28 @@ fn take_line<T: Threads + Sync, F: Files, D: StoreFile, W: Write>(
     number: u64,
     out: &mut Printer<'_, W>,
 ) -> Result<(), Failure>
-    requires reader { IsReader setting.now.answering.log.now reader.old }
-    requires round { IsRound (peer_of setting.now.answering) (held_by reader.old.peer).chain
-        round.old }
-    requires answer { IsKnown (peer_of setting.now.answering) (held_by reader.old.peer).chain
-        round.old.line.items round.old.answer }
-    ensures reader { OnOk result (IsReader setting.now.answering.log.now reader.new) }
+    requires reader { IsReader D.is_known D.contents setting.now.answering.log.now reader.old }
+    requires round { IsRound (peer_of D.is_known setting.now.answering)
+        (held_by reader.old.peer).chain round.old }
+    requires answer { IsKnown (peer_of D.is_known setting.now.answering)
+        (held_by reader.old.peer).chain round.old.line.items round.old.answer }
+    ensures reader { OnOk result
+        (IsReader D.is_known D.contents setting.now.answering.log.now reader.new) }
     ensures round { OnOk result
-        (IsRound (peer_of setting.now.answering) (held_by reader.new.peer).chain round.new) }
+        (IsRound (peer_of D.is_known setting.now.answering) (held_by reader.new.peer).chain
+        round.new) }
     ensures lines { round.new.lines.items ≡ round.old.lines.items }
     ensures tells { Tells out.old out.new result }
     ensures does { Answers
         (DoesOrEnds
-        (λ text. DoesLine (peer_of setting.now.answering) number (reached reader.old)
+        (λ text. DoesLine (peer_of D.is_known setting.now.answering) number (reached reader.old)
         round.old.line.items text (reached reader.new))
-        (EndsLine (peer_of setting.now.answering) number (reached reader.old)
+        (EndsLine (peer_of D.is_known setting.now.answering) number (reached reader.old)
         round.old.line.items)) out.old out.new result }
     ensures told { TellsLine D.contents reader.old.peer reader.new.peer
-        (λ text. DoesLine (peer_of setting.now.answering) number (reached reader.old)
+        (λ text. DoesLine (peer_of D.is_known setting.now.answering) number (reached reader.old)
         round.old.line.items text (reached reader.new))
-        (EndsLine (peer_of setting.now.answering) number (reached reader.old)
+        (EndsLine (peer_of D.is_known setting.now.answering) number (reached reader.old)
         round.old.line.items) out.old out.new }
     ensures stores { StoresOn D.contents reader.old.peer reader.new.peer result }
     ensures kept { F.bytes files.new ≡ F.bytes files.old }
@@ -388,15 +401,7 @@ fn take_line<T: Threads + Sync, F: Files, D: StoreFile, W: Write>(
             take_entry(files, setting, reader, number, &entry, out)
         }
         Some(Line::Ask(asked)) => {
-            answer_line(
-                files,
-                &setting.answering,
-                &reader.peer,
-                round,
-                number,
-                &asked,
-                out,
-            )
+            answer_line(files, setting, &reader.peer, round, number, &asked, out)
         }
         None => print_bad_line(alloc, files, number, out),
     }
@@ -404,35 +409,38 @@ fn take_line<T: Threads + Sync, F: Files, D: StoreFile, W: Write>(
 
 /// Answers the line of a round, which has this number and asks for something. One that is no text is
 /// a bad one.
-fn answer_line<F: Files, D: StoreFile, W: Write>(
+fn answer_line<T, F: Files, D: StoreFile + Sync, W: Write>(
     files: &mut F,
-    answering: &Answering<'_>,
+    setting: &Setting<'_, T>,
     peer: &LogPeer<D>,
     round: &Round,
     number: u64,
     asked: &Asked<'_>,
     out: &mut Printer<'_, W>,
 ) -> Result<(), Failure>
+    requires sound { IsSound D.is_known D.contents peer.now }
     requires answer { IfSome round.now.answer
-        (λ a. SaysBy (peer_of answering.now) (held_by peer.now).chain asked.now.request
-        asked.now.words.now (answer_text a)) }
+        (λ a. SaysBy (peer_of D.is_known setting.now.answering) (held_by peer.now).chain
+        asked.now.request asked.now.words.now (answer_text a)) }
     ensures tells { Tells out.old out.new result }
     ensures prints { OnOk result
         (PrintsSo
-        (DoesAsked (peer_of answering.now) number (held_by peer.now).chain round.now.line.items
-        asked.now.request asked.now.tag.now asked.now.words.now) out.old out.new) }
+        (DoesAsked (peer_of D.is_known setting.now.answering) number (held_by peer.now).chain
+        round.now.line.items asked.now.request asked.now.tag.now asked.now.words.now) out.old
+        out.new) }
     ensures nothing { OnErr result (PrintsNothing out.old out.new) }
     ensures lost { IfErr result IsBrokenOff }
     ensures kept { F.bytes files.new ≡ F.bytes files.old }
 {
     if !is_text(round.line()) {
-        return print_bad_line(answering.alloc, files, number, out);
+        return print_bad_line(setting.answering.alloc, files, number, out);
     }
     match round.answer() {
-        Some(answer) => print_answer(files, answering, peer, number, asked, answer, out),
+        Some(answer) => print_answer(files, setting, peer, number, asked, answer, out),
         None => {
-            let answer = answering.answer(peer.snapshot(), asked.request, asked.words)?;
-            print_answer(files, answering, peer, number, asked, &answer, out)
+            let answering = &setting.answering;
+            let answer = answering.answer(peer.blocks(), asked.request, asked.words)?;
+            print_answer(files, setting, peer, number, asked, &answer, out)
         }
     }
 }
@@ -463,22 +471,23 @@ fn print_bad_line<F: Files, W: Write>(
 
 /// Prints the answer to what the line of this number asks for, and says why it is not answered as it
 /// asks, if that is so.
-fn print_answer<F: Files, D: StoreFile, W: Write>(
+fn print_answer<T, F: Files, D: StoreFile, W: Write>(
     files: &mut F,
-    answering: &Answering<'_>,
+    setting: &Setting<'_, T>,
     peer: &LogPeer<D>,
     line: u64,
     asked: &Asked<'_>,
     answer: &Answer,
     out: &mut Printer<'_, W>,
 ) -> Result<(), Failure>
-    requires answer { SaysBy (peer_of answering.now) (held_by peer.now).chain asked.now.request
-        asked.now.words.now (answer_text answer.now) }
+    requires stored { IsPeer peer.now }
+    requires answer { SaysBy (peer_of D.is_known setting.now.answering) (held_by peer.now).chain
+        asked.now.request asked.now.words.now (answer_text answer.now) }
     ensures tells { Tells out.old out.new result }
     ensures prints { OnOk result
         (PrintsSo
-        (AnswersText (peer_of answering.now) (held_by peer.now).chain asked.now.request
-        asked.now.tag.now asked.now.words.now) out.old out.new) }
+        (AnswersText (peer_of D.is_known setting.now.answering) (held_by peer.now).chain
+        asked.now.request asked.now.tag.now asked.now.words.now) out.old out.new) }
     ensures nothing { OnErr result (PrintsNothing out.old out.new) }
     ensures lost { IfErr result IsBrokenOff }
     ensures kept { F.bytes files.new ≡ F.bytes files.old }
@@ -488,8 +497,9 @@ fn print_answer<F: Files, D: StoreFile, W: Write>(
         tag,
         words,
     } = *asked;
-    explain_answer(answering.alloc, files, line, request, words, answer);
-    writeln!(out, "answer {tag} {} {answer}", peer.snapshot().height())
+    let alloc = setting.answering.alloc;
+    explain_answer(alloc, files, setting.store, line, request, words, answer);
+    writeln!(out, "answer {tag} {} {answer}", height_of(peer))
 }
 
 /// Reads the entry of the line of this number. The first may name a genesis, which has to be this log's.
@@ -501,8 +511,9 @@ fn take_entry<T: Threads + Sync, F: Files, D: StoreFile, W: Write>(
     entry: &Entry<'_>,
     out: &mut Printer<'_, W>,
 ) -> Result<(), Failure>
-    requires reader { IsReader setting.now.answering.log.now reader.old }
-    ensures reader { OnOk result (IsReader setting.now.answering.log.now reader.new) }
+    requires reader { IsReader D.is_known D.contents setting.now.answering.log.now reader.old }
+    ensures reader { OnOk result
+        (IsReader D.is_known D.contents setting.now.answering.log.now reader.new) }
     ensures tells { Tells out.old out.new result }
     ensures does { Answers
         (DoesOrEnds

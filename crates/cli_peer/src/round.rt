@@ -19,7 +19,7 @@ use std::alloc::{AllocError, Global};
 use std::collections::VecDeque;
 use std::io::{Read, Write};
 use std::thread::Threads;
-use world_state::Snapshot;
+use store_devices::Blocks;
 
 /// A round has at most so many lines.
 const MOST_LINES: usize = 64;
@@ -55,22 +55,25 @@ impl Round {
     /// Goes on to the next line. Answers whether there is one. Where none of the round is left, what
     /// was printed is handed on as `next_line` does, and the lines that are at hand then are the
     /// next round. Where nothing is known of the answers, lines are answered first.
-    pub(crate) fn next<T: Threads + Sync, F: Files, R: Read + Drop, W: Write>(
+    pub(crate) fn next<T: Threads + Sync, F: Files, B: Blocks, R: Read + Drop, W: Write>(
         &mut self,
         files: &mut F,
         workers: &Workers<'_, T>,
         answering: &Answering<'_>,
-        snapshot: &Snapshot,
+        blocks: &B,
         lines: &mut InputLines<R>,
         out: &mut Printer<'_, W>,
     ) -> Result<bool, Failure>
-        requires round { IsRound (peer_of answering.now) snapshot.now self.old }
-        ensures round { OnOk result (IsRound (peer_of answering.now) snapshot.now self.new) }
+        requires sound { B.IsSound blocks.now }
+        requires round { IsRound (peer_of B.keeps answering.now) (B.chain blocks.now) self.old }
+        ensures round { OnOk result
+            (IsRound (peer_of B.keeps answering.now) (B.chain blocks.now) self.new) }
         ensures next { IfOk result
             (λ there. IsNext there (input_of self.old lines.old) (input_of self.new lines.new)) }
         ensures answer { IfOk result
             (λ there. there ≡ true →
-            IsKnown (peer_of answering.now) snapshot.now self.new.line.items self.new.answer) }
+            IsKnown (peer_of B.keeps answering.now) (B.chain blocks.now) self.new.line.items
+            self.new.answer) }
         ensures told { (before : Told) (text : List ℕ) → Prints before out.old text →
             OnOk result (Prints before out.new text) }
         ensures part { OnErr result (PrintsPart out.old out.new []) }
@@ -80,7 +83,7 @@ impl Round {
     {
         let there = self.fill(answering.alloc, files, lines, out)?;
         if there {
-            self.look_ahead(workers, answering, snapshot);
+            self.look_ahead(workers, answering, blocks);
             self.step();
         }
         Ok(there)
@@ -141,16 +144,17 @@ impl Round {
 
     /// Answers the lines before the first of the log, where there are several, several workers, and
     /// nothing is known of the answers. Where there is no memory for that, nothing is known.
-    fn look_ahead<T: Threads + Sync>(
+    fn look_ahead<T: Threads + Sync, B: Blocks>(
         &mut self,
         workers: &Workers<'_, T>,
         answering: &Answering<'_>,
-        snapshot: &Snapshot,
+        blocks: &B,
     )
-        requires known { AreKnown (peer_of answering.now) snapshot.now self.old.answers.items
-            self.old.lines.items }
-        ensures known { AreKnown (peer_of answering.now) snapshot.now self.new.answers.items
-            self.new.lines.items }
+        requires sound { B.IsSound blocks.now }
+        requires known { AreKnown (peer_of B.keeps answering.now) (B.chain blocks.now)
+            self.old.answers.items self.old.lines.items }
+        ensures known { AreKnown (peer_of B.keeps answering.now) (B.chain blocks.now)
+            self.new.answers.items self.new.lines.items }
         ensures lines { self.new.lines.items ≡ self.old.lines.items }
     {
         if !self.answers.is_empty() || workers.count() == 1 {
@@ -161,7 +165,7 @@ impl Round {
         if run.len() < 2 {
             return;
         }
-        if let Ok(answers) = answer_each(workers, answering, snapshot, run) {
+        if let Ok(answers) = answer_each(workers, answering, blocks, run) {
             self.answers = VecDeque::from_vec(answers);
         }
     }

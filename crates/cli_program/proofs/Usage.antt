@@ -45,7 +45,7 @@ works_kept log (work.Show store from to) k t u r is h = answers_kept (Shows log.
 works_kept log (work.State store at part) k t u r is h = answers_kept (States log.genesis h.0 at (k.before store.now)) t u r is h.2.0
 works_kept log (work.Trace call most) k t u r is h = answers_kept (Traces log.genesis call most) t u r is h.0
 works_kept log (work.Peer org store) k t u r is h =
-    answers_kept (Peers (record { log = log; org = org }) (opened_bytes k.writes (k.before store.now)) k.input) t u r is h.0.0
+    answers_kept (Peers (record { log = log; org = org; keeps = k.writes }) (opened_bytes k.writes (k.before store.now)) k.input) t u r is h.0.0
 works_kept log (work.Marks store) k t u r is h = answers_kept (Marks log.genesis (k.before store.now)) t u r is h.0
 
 comes_kept : (task : Task) (k : KnownFiles) (t u : Told) (r : Answer) → r ≡ Err failure.Usage → Comes task k t u r → IsKept t u

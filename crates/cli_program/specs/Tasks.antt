@@ -79,7 +79,7 @@ Works log (work.State store at asked) k before after answer =
     × Does (States log.genesis p at (k.before store.now)) (StateBegins log.genesis p at (k.before store.now)) before after answer
 Works log (work.Trace call most) k before after answer = Does (Traces log.genesis call most) (TraceBegins log.genesis call most) before after answer
 Works log (work.Peer org store) k before after answer =
-    let p : Peer = record { log = log; org = org } in
+    let p : Peer = record { log = log; org = org; keeps = k.writes } in
     let held = opened_bytes k.writes (k.before store.now) in
     Does (Peers p held k.input) (PeersBegin p held k.input) before after answer
     × OnOk answer (HoldsReached k.writes p store.now k.input k.before k.after)

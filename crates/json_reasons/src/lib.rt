@@ -1,28 +1,26 @@
 //! Why a genesis file, a modules file, a line of an events file, a proposal or a question is
 //! refused, in words.
 //!
-//! The exact readers answer a number alone. What is here looks at the same input once more, finds
-//! the first fault of that number by the tables of what an object may have, and says in one
-//! sentence where it is, what it is and what is possible there. No sentence shows a key, a module
-//! or a text of hex, and none has an end of line.
+//! The exact readers answer a number alone. What is here walks through the same input once more by
+//! the table of what each object may have, and says in one sentence where the first fault of that
+//! number is, what it is and what is possible there. No sentence shows a key, a module or a text of
+//! hex, and none has an end of line.
 #![tactic(auto)]
 
-mod complaint;
-mod files;
-mod forms;
-mod genesis_forms;
-mod json_place;
+mod behind;
+mod fault;
 mod json_text;
-mod line_forms;
-mod lines;
-mod modules;
-mod names;
 mod place;
-mod policies;
 mod policy_text;
-mod rule;
-mod search;
-mod shown;
+mod reasons;
+mod tables;
+mod walk;
 
-pub use files::{genesis_reason, modules_reason};
-pub use lines::{event_reason, proposal_reason, question_reason};
+pub use reasons::{event_reason, genesis_reason, modules_reason, proposal_reason, question_reason};
+use std::alloc::AllocError;
+
+/// A sentence, or a part of one.
+type Words = Result<String, AllocError>;
+
+/// A sentence where something is wrong.
+type MaybeWords = Result<Option<String>, AllocError>;

@@ -13,6 +13,7 @@ use crate::modules::{Look, ask_module, show_module};
 use crate::operators::apply_operator;
 use crate::policies::{show_endorsed, show_policy, show_satisfied};
 use crate::runs::Question;
+use crate::signatures::ask_key;
 use crate::simulations::simulate_calls;
 use crate::tags::show_bound;
 use fab_types::Edition;
@@ -107,6 +108,7 @@ fn answer_bytes(alloc: Global, verb: &str, pieces: &str) -> Result<String, CaseF
         "hashes" => show_hashes(alloc, pieces),
         "tag" => show_tag(alloc, pieces),
         "bound" => show_bound(alloc, pieces),
+        "public" | "sign" | "verify" | "small_order" | "key" => ask_key(alloc, verb, pieces),
         _ => answer_module(alloc, Profile::Core1, verb, pieces),
     }
 }

@@ -1,4 +1,4 @@
-//! Why a line has no answer but a fault.
+//! Why a line has no answer but a fault, or nothing was timed.
 
 ghost use Rattle.std.specs.Prelude.{◌≡◌};
 ghost use Rattle.ledger_cases.specs.declared.fault.CaseFault.TheVariants.{Memory};
@@ -6,13 +6,14 @@ ghost use Rattle.ledger_cases.specs.declared.fault.CaseFault.TheVariants.{Memory
 use hex::FromHexError;
 use std::alloc::{AllocError, AllocFailed};
 use std::fmt::{self, Display, Formatter, Write};
+use std::io;
 use std::num::ParseIntError;
 use wasm_bytes::ByteFault;
 use wasm_decode::DecodeFault;
 use wasm_validate::ValidateFault;
 use wire::WireFault;
 
-/// Why a line has no answer but a fault.
+/// Why a line has no answer but a fault, or nothing was timed.
 #[derive(Clone, Copy)]
 pub enum CaseFault {
     /// There was no memory.
@@ -25,6 +26,14 @@ pub enum CaseFault {
     Invalid(ValidateFault),
     /// The bytes spell no value of the ledger: the number of the fault.
     Refused(u16),
+    /// The words of the command line name no task.
+    Usage,
+    /// The input could not be read, or the output written.
+    Input,
+    /// The clock cannot be read.
+    Clock,
+    /// A signature is not that of its key and message.
+    Signature,
 }
 
 impl Display for CaseFault {
@@ -35,6 +44,10 @@ impl Display for CaseFault {
             CaseFault::Malformed(number, offset) => write!(f, "fault {number} at {offset}"),
             CaseFault::Invalid(fault) => write!(f, "invalid {fault}"),
             CaseFault::Refused(number) => write!(f, "refused {number}"),
+            CaseFault::Usage => f.write_str("usage: ledger_cases [verify|sign|once]"),
+            CaseFault::Input => f.write_str("no input"),
+            CaseFault::Clock => f.write_str("no clock"),
+            CaseFault::Signature => f.write_str("wrong signature"),
         }
     }
 }
@@ -52,6 +65,12 @@ impl<T: Drop> From<AllocFailed<T>> for CaseFault {
 
     fn from(_refused: AllocFailed<T>) -> CaseFault {
         CaseFault::Memory
+    }
+}
+
+impl From<io::Error> for CaseFault {
+    fn from(_failed: io::Error) -> CaseFault {
+        CaseFault::Input
     }
 }
 

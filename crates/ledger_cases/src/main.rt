@@ -1,6 +1,8 @@
-//! Calls of the WebAssembly crates and of the ledger's: cases as data.
+//! Calls of the WebAssembly crates, of the ledger's and of Ed25519: cases as data, and with a word
+//! signatures that are timed or counted.
 //!
-//! A line of the input is a case, and the line of the output with the same number is its answer. A line is a verb and its words, and may have a note behind ` #`. Lines that are empty
+//! Without a word a line of the input is a case, and the line of the output with the same number is
+//! its answer. A line is a verb and its words, and may have a note behind ` #`. Lines that are empty
 //! or begin with `#` are printed as they are, and `bad line` stands for what is no case. In HEX
 //! bytes are pieces with blanks between them; a piece with `*N` behind it stands N times.
 //!
@@ -29,6 +31,17 @@
 //! - `tag KEY HEX`: the tag of the bytes under the key, which is one piece;
 //! - `bound NAME DIGEST HEX`: the signature of the bytes for the ledger whose genesis file has this
 //!   digest, which is one piece, by the seed that is the name with zeros behind it.
+//!
+//! Of Ed25519, where SEED, KEY, MESSAGE and SIGNATURE are hex of one piece, and `-` is an empty
+//! message:
+//!
+//! - `public SEED`: the public key of a secret seed of 32 bytes;
+//! - `sign SEED MESSAGE`: the signature of the message under that key;
+//! - `verify KEY MESSAGE SIGNATURE`: `good` where the signature is one of the message under the
+//!   public key, else `bad`;
+//! - `small_order KEY`: `small` where the key is one of the eight whose point has an order that
+//!   divides 8, else `not small`;
+//! - `key KEY`: `good` where the bytes are a point that is not of small order, else `bad`.
 //!
 //! Of policies, where names stand between commas and `-` is none:
 //!
@@ -74,6 +87,17 @@
 //!   organisation.
 //!
 //! `under 2` in front of `endorsed` and of these verbs asks for their answer under rules 2.
+//!
+//! With a word, for `bench/run` and `bench/instructions`:
+//!
+//! - `ledger_cases verify` verifies the signature of each line of the input, `SEED KEY MESSAGE
+//!   SIGNATURE`, and `sign` signs the message of each with the key of the seed. Each prints how many
+//!   there were and how many microseconds of processor time that took. Lines are read before that,
+//!   and keys are made of seeds.
+//! - `once` reads 32 bytes, and writes the 64 bytes of the signature of 64 zeros under the key of
+//!   that seed. It treats all seeds alike, but for what signing does with them.
+//!
+//! The exit status is 0 for done, 1 for a failure, and 2 where the words name no task.
 #![tactic(auto)]
 
 mod bytes;
@@ -90,19 +114,43 @@ mod modules;
 mod operators;
 mod policies;
 mod runs;
+mod signatures;
 mod simulations;
 mod steps;
 mod tags;
 mod texts;
+mod timing;
 mod transactions;
 
 use crate::cases::{answer_case, without_note};
+use crate::fault::CaseFault;
+use crate::timing::carry_out;
+use std::env;
 use std::io::{self, BufRead, BufReader, Write};
+use std::process::ExitCode;
 
-fn main(rt: HostRuntime) -> io::Result<()> {
+fn main(rt: HostRuntime) -> io::Result<ExitCode> {
+    let words: Vec<String> = env::args(&rt)?.skip(1).collect(rt.alloc())?;
+    let done = match words.as_slice() {
+        [] => Ok(answer_lines(&rt)?),
+        [word] => carry_out(&rt, word.as_str()),
+        _ => Err(CaseFault::Usage),
+    };
+    let Err(fault) = done else {
+        return Ok(ExitCode::from(0));
+    };
+    println!(rt; "{fault}")?;
+    Ok(ExitCode::from(match fault {
+        CaseFault::Usage => 2,
+        _ => 1,
+    }))
+}
+
+/// Answers each line of the input.
+fn answer_lines(rt: &HostRuntime) -> io::Result<()> {
     let alloc = rt.alloc();
     for line in BufReader::new(alloc, rt.reader())?.lines(alloc) {
-        answer_line(&rt, line?.as_str())?;
+        answer_line(rt, line?.as_str())?;
     }
     Ok(())
 }

@@ -1,5 +1,5 @@
 -- The record that lies at a place.
-use Rattle.std.proofs.Common.{◌≡◌, ◌≢◌, ◌≤◌, ◌<◌, ℕ, zero, suc, ◌+◌, ◌-◌, List, [], ◌∷◌, ◌++◌, Option, Some, None, IfOk, IfSome, IsOk, Ok, Err, Result, option_map, slice_get, slice_index, length, take, drop, refl, sym, ap, subst, append_assoc, ◌∙◌, arith}
+use Rattle.std.proofs.Common.{◌≡◌, ◌≢◌, ◌≤◌, ◌<◌, ℕ, zero, suc, ◌+◌, ◌-◌, ◌^◌, List, [], ◌∷◌, ◌++◌, Option, Some, None, IfOk, IfSome, IsOk, Ok, Err, Result, option_map, slice_get, slice_index, length, take, drop, refl, sym, ap, subst, append_assoc, ◌∙◌, arith}
 use Rattle.std.specs.List.{flat_map}
 use Rattle.std.proofs.Math.Seq.{drop-append_seam, take-append_seam}
 use Rattle.std.proofs.lemmas.List.{append-nil, length-append}
@@ -12,7 +12,7 @@ use Rattle.block_store.proofs.OneAnswer.{same_record}
 use Rattle.store_devices.specs.Places.{begin_at, ends_from, ends_of, span_at}
 
 -- where a record begins, of which the first begins here
-begin_or : ℕ → List ℕ → ℕ → ℕ
+abbrev begin_or : ℕ → List ℕ → ℕ → ℕ
 begin_or begin ends zero = begin
 begin_or begin ends (suc place) = slice_index ends place
 
@@ -43,7 +43,7 @@ is_at begin n (c ∷ cs) zero end number are there counted = record {
   before = [];
   behind = flat_map record_bytes cs;
   at = refl;
-  is = subst (λ (m : ℕ). IsRecord m c) (sym counted) are.0;
+  is = subst (λ (m : ℕ). IsRecord m c) (let same : n ≡ number = omega (arith, counted) in same) are.0;
   bytes = refl;
   begins = omega arith;
   ends = let same : begin + length (record_bytes c) ≡ end = cc in omega (arith, same);
@@ -75,9 +75,14 @@ pub record LiesAt (cs : List Committed) (number begin end : ℕ) : Type 0 where
   pub within : end ≤ length (flat_map record_bytes cs)
   pub bytes : take (end - begin) (drop begin (flat_map record_bytes cs)) ≡ record_bytes committed
 
-spanned : (found : Option ℕ) (from begin end : ℕ) → option_map (λ (to : ℕ). (from, to)) found ≡ Some (begin, end) → (found ≡ Some end) × (from ≡ begin)
+spanned : (found : Option ℕ) (from begin end : ℕ) → option_map {U = ℕ × ℕ} (λ (to : ℕ). (from, to)) found ≡ Some (begin, end) →
+    (found ≡ Some end) × (from ≡ begin)
 spanned None from begin end is = cc
-spanned (Some to) from begin end is = (cc, cc)
+spanned (Some to) from begin end is =
+    let spans : ℕ × ℕ = (from, to) in
+    let span : ℕ × ℕ = (begin, end) in
+    let same : spans ≡ span = cc in
+    (ap (λ (s : ℕ × ℕ). Some s.1) same, ap (λ (s : ℕ × ℕ). s.0) same)
 
 pub lies_at : (cs : List Committed) (ends : List ℕ) (number begin end : ℕ) → AreRecords 1 cs → ends ≡ ends_of cs →
     span_at ends number ≡ Some (begin, end) → LiesAt cs number begin end
@@ -86,14 +91,14 @@ lies_at cs ends (suc place) begin end are all span =
     let parts = spanned (slice_get ends place) (begin_at ends place) begin end span in
     let one = is_at 0 1 cs place end (suc place) are (ap (λ (es : List ℕ). slice_get es place) (sym all) ∙ parts.0) (omega arith) in
     let from : begin ≡ length one.before =
-    sym parts.1 ∙ ap (λ (es : List ℕ). begin_at es place) all ∙ begin_is (ends_of cs) place ∙ one.begins in
+    sym parts.1 ∙ ap (λ (es : List ℕ). begin_at es place) all ∙ begin_is (ends_of cs) place ∙ one.begins ∙ omega arith in
     let to = one.ends in
     let size : end - begin ≡ length (record_bytes one.committed) = omega (arith, from, to) in
     let tail = record_bytes one.committed ++ one.behind in
     let whole = ap length one.bytes in
     record {
       committed = one.committed;
-      at = one.at;
+      at = ap (slice_get cs) (let same : suc place - 1 ≡ place = omega arith in same) ∙ one.at;
       is = one.is;
       ordered = omega (arith, from, to);
       within = omega (arith, to, whole, length-append one.before tail, length-append (record_bytes one.committed) one.behind);
@@ -109,8 +114,8 @@ pub has_span : (ends : List ℕ) (number : ℕ) → 1 ≤ number → number ≤ 
 has_span ends zero least most none = omega (arith, least)
 has_span ends (suc place) least most none =
     let there = slice_get-get_or ends place 0 (omega (arith, most)) in
-    let some : option_map (λ (to : ℕ). (begin_at ends place, to)) (slice_get ends place) ≡ Some (begin_at ends place, slice_index ends place) =
-    ap (option_map (λ (to : ℕ). (begin_at ends place, to))) there in
+    let some : option_map {U = ℕ × ℕ} (λ (to : ℕ). (begin_at ends place, to)) (slice_get ends place) ≡ Some (begin_at ends place, slice_index ends place) =
+    ap (option_map {U = ℕ × ℕ} (λ (to : ℕ). (begin_at ends place, to))) there in
     cc
 
 -- what is read there is that record
@@ -126,3 +131,27 @@ read_there cs number begin end bytes found lies filled is =
 pub is_there : (cs : List Committed) (number begin end : ℕ) (bytes : List ℕ) → LiesAt cs number begin end →
     bytes ≡ take (end - begin) (drop begin (flat_map record_bytes cs)) → IsRecordIn number bytes None → ⊥
 is_there cs number begin end bytes lies filled none = none lies.committed lies.is (sym (filled ∙ lies.bytes))
+
+-- a buffer that was filled from where the record begins
+pub filled_there : (known : Option (List ℕ)) (cs : List Committed) (begin end size : ℕ) (buffer : List ℕ) → known ≡ Some (flat_map record_bytes cs) →
+    size ≡ end - begin → IfSome known (λ held. buffer ≡ take size (drop begin held)) → buffer ≡ take (end - begin) (drop begin (flat_map record_bytes cs))
+filled_there None cs begin end size buffer held sized filled = cc
+filled_there (Some bytes) cs begin end size buffer held sized filled =
+    let same : bytes ≡ flat_map record_bytes cs = cc in
+    filled ∙ ap (λ (n : ℕ). take n (drop begin bytes)) sized ∙ ap (λ (bs : List ℕ). take (end - begin) (drop begin bs)) same
+
+-- the file has all of its bytes
+pub all_there : (P : Type 0) (known : Option (List ℕ)) (cs : List Committed) (number begin end size : ℕ) → LiesAt cs number begin end →
+    known ≡ Some (flat_map record_bytes cs) → size ≡ end - begin → end < 2 ^ 64 →
+    (begin + size < 2 ^ 64 → IfSome known (λ held. begin + size ≤ length held → P)) → P
+all_there P None cs number begin end size lies held sized room reads = cc
+all_there P (Some bytes) cs number begin end size lies held sized room reads =
+    let ordered = lies.ordered in
+    let within = lies.within in
+    let same : bytes ≡ flat_map record_bytes cs = cc in
+    let count = ap length same in
+    reads (omega (arith, ordered, sized, room)) (omega (arith, ordered, within, sized, count))
+
+-- a vector that was written from its beginning to its end
+pub written : (n : ℕ) (buffer items : List ℕ) → n ≡ length buffer → take n (buffer ++ drop (length buffer) items) ≡ buffer
+written n buffer items all = ap (λ (k : ℕ). take k (buffer ++ drop (length buffer) items)) all ∙ take-append_seam buffer (drop (length buffer) items)

@@ -1,6 +1,6 @@
 //! Where the records of a store lie.
 
-ghost use Rattle.std.specs.Prelude.{◌≡◌, ◌≤◌, ◌<◌, ◌+◌, ◌++◌, ◌∷◌, [], OnErr, OnOk, length};
+ghost use Rattle.std.specs.Prelude.{◌≡◌, ◌≤◌, ◌<◌, ◌+◌, ◌^◌, ◌++◌, ◌∷◌, [], IfSome, OnErr, OnOk, length};
 ghost use Rattle.store_devices.specs.Places.{last_end, span_at};
 
 use std::alloc::{AllocError, Global};
@@ -57,7 +57,8 @@ impl Places {
 
     /// Where the record of a number begins and ends. None where there is none, as of 0.
     pub fn span(&self, number: u32) -> Option<(u64, u64)>
-        ensures { result ≡ span_at self.now number }
+        ensures value { result ≡ span_at self.now number }
+        ensures limits { IfSome result (λ s. s.1 < 2 ^ 64) }
     {
         if number == 0 {
             return None;

@@ -3,3 +3,4 @@ pub mod Pushed
 pub mod Going
 pub mod Lawful
 pub mod RightTags
+pub mod Recommitted

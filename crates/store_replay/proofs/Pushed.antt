@@ -1,12 +1,14 @@
 -- The block of a record on a chain, and what that says of the record.
-use Rattle.std.proofs.Common.{◌≡◌, ◌≢◌, ◌∙◌, ◌++◌, ◌∷◌, ◌+◌, [], Bool, true, false, MatchBool, List, length, length-append, sym, ap}
+use Rattle.std.proofs.Common.{◌≡◌, ◌≢◌, ◌∙◌, ◌++◌, ◌∷◌, ◌+◌, [], Bool, true, false, MatchBool, List, arith, length, length-append, subst, sym, ap}
+use Rattle.std.proofs.lemmas.List.{length-map}
 use Rattle.fab_types.specs.Committed.{Committed}
 use Rattle.fab_types.specs.declared.block.Block.{Block}
 use Rattle.fab_types.specs.declared.flag.Flag.{Flag}
 use Rattle.ledger_model.specs.Chain.{Chain}
 use Rattle.ledger_model.specs.Judged.{BlockRule}
-use Rattle.world_state.specs.Judging.{flagged}
+use Rattle.world_state.specs.Judging.{IsOf, flagged}
 use Rattle.world_state.specs.declared.judged.Judged.{Judged}
+use Rattle.committer.specs.Fits.{Fits, IsNext, blocks_of}
 use Rattle.ledger_setting.specs.Judging.{IsJudged, next_by}
 use Rattle.store_replay.specs.Replay.{HasTheFlags, IsPushed}
 use Rattle.store_replay.proofs.Lawful.{is_judged}
@@ -28,6 +30,20 @@ pub stands : (rule : BlockRule) (chain last : Chain) (b : Block) (c : Committed)
     HasTheFlags rule chain c true → last ≡ chain ++ flagged b judged ∷ [] → last ≡ chain ++ c ∷ []
 stands rule chain last b c judged same is flags on =
     grown rule chain last b c.block judged same is on ∙ ap (λ (x : Committed). chain ++ x ∷ []) (sym (is_judged rule chain c flags))
+
+-- a block that was judged behind a chain has the next number, and its own ids
+pub is_next : (rule : BlockRule) (chain : Chain) (b c : Block) (judged : Judged) → b ≡ c → IsJudged rule chain c judged → b.header.number ≡ length chain + 1
+is_next rule chain b c judged same is =
+    let number = is.fits.number in
+    let header = ap (λ (x : Block). x.header.number) same in
+    omega (arith, number, header, length-map chain (λ (d : Committed). d.block))
+
+pub is_of : (rule : BlockRule) (chain : Chain) (b c : Block) (judged : Judged) → b ≡ c → IsJudged rule chain c judged → IsOf b judged
+is_of rule chain b c judged same is = subst (λ (x : Block). IsOf x judged) (sym same) is.of
+
+-- and it is the next by all that is tested before memory is taken
+pub for_memory : (rule : BlockRule) (chain : Chain) (c : Block) (judged : Judged) → IsJudged rule chain c judged → IsNext (blocks_of chain) c
+for_memory rule chain c judged is = (is.fits.room, is.fits.number, is.fits.previous_hash)
 
 pub one_more : (rule : BlockRule) (chain : Chain) (c : Committed) (is_same : Bool) (last : Chain) → IsPushed rule chain c is_same last →
     length last ≡ length chain + 1

@@ -9,19 +9,17 @@ ghost use Rattle.store_replay.specs.Recommitting.{IsRecommitted};
 ghost use Rattle.store_replay.specs.Tags.{orgs_kept, right_in_record};
 
 use crate::pending::Pending;
-use crate::pushing::judge_record;
+use crate::recommitting::judge_as_stored;
 use crate::refusal::RecommitRefusal;
 use crate::tags::TagChecks;
 use crate::watch::Watch;
 use block_store::RecordSink;
-use committer::CommitRefusal;
 use endorsement_policy::Rules;
 use fab_types::CommittedBlock;
 use kept_state::KeptChain;
 use policy_language::OrgSet;
 use std::alloc::{AllocError, Global};
 use std::thread::Threads;
-use world_state::Past;
 
 /// A store's blocks as they are committed again, each behind those before it, and of which none is
 /// held. Each has to have the flags with which it is stored. Behind one that is refused, others are
@@ -38,7 +36,7 @@ pub struct Recommit<'a, T, V> {
 impl<'a, T, V> Recommit<'a, T, V> {
     /// Before the first block. It takes no memory.
     pub fn new(tags: &'a TagChecks<'a, T, V>, alloc: Global, rules: &'a Rules) -> Self
-        ensures { IsRecommitted (table_of result.rules.now) result.chain result.refused [] }
+        ensures none { IsRecommitted (table_of result.rules.now) result.chain result.refused [] }
         ensures rules { result.rules.now ≡ rules.now }
     {
         Recommit {
@@ -53,10 +51,10 @@ impl<'a, T, V> Recommit<'a, T, V> {
     /// The chain of the blocks that were taken, or why one of them is refused.
     pub fn finish(self) -> Result<KeptChain, RecommitRefusal>
         ensures { (cs : List Committed) →
-            IsRecommitted (table_of self.rules.now) self.chain self.refused cs →
+            IsRecommitted (table_of self.entry.rules.now) self.entry.chain self.entry.refused cs →
             MatchResult result
-            (λ c. IsKept c × (chain_of c ≡ cs) × AreLawful (table_of self.rules.now) [] cs)
-            (IsRecommitRefused (table_of self.rules.now) cs) }
+            (λ c. IsKept c × (chain_of c ≡ cs) × AreLawful (table_of self.entry.rules.now) [] cs)
+            (IsRecommitRefused (table_of self.entry.rules.now) cs) }
     {
         match self.refused {
             None => Ok(self.chain),
@@ -68,13 +66,13 @@ impl<'a, T, V> Recommit<'a, T, V> {
 impl<T: Threads + Sync, V: Watch> RecordSink for Recommit<'_, T, V> {
     ghost use Rattle.ledger_setting.specs.Rule.{table_of};
     ghost use Rattle.endorsement_policy.specs.Listed.{Listed};
-    ghost use Rattle.store_replay.specs.Recommitting.{IsRecommitted};
+    ghost use Rattle.store_replay.specs.Recommitting.{HasTaken};
 
     ghost Context = { Listed };
 
     ghost context = { λ r. r.rules.now };
 
-    ghost Took = { λ r cs. IsRecommitted (table_of r.rules.now) r.chain r.refused cs };
+    ghost Took = { λ r cs. HasTaken T.row (table_of r.rules.now) r.chain r.refused cs };
 
     fn take(&mut self, records: Vec<CommittedBlock>) -> Result<(), AllocError> {
         if self.refused.is_none() {
@@ -130,14 +128,8 @@ fn recommit_one(
     ensures refused { IfErr result
         (λ r. IsNextRefused (table_of rules.now) (chain_of chain.old) stored r) }
 {
-    let number = chain.height() as usize + 1;
-    let judged = match judge_record(alloc, rules, chain, &stored, right.as_deref()) {
-        Ok((judged, true)) => judged,
-        Ok((_, false)) => return Err(RecommitRefusal::Flags(number)),
-        Err(CommitRefusal::Memory) => return Err(RecommitRefusal::Memory),
-        Err(cause) => return Err(RecommitRefusal::Unfit(number, cause)),
-    };
+    let judged = judge_as_stored(alloc, rules, chain, &stored, right.as_deref())?;
     let (block, _flags) = stored.into_parts();
-    let _committed = chain.extend(alloc, block, judged)?;
+    chain.extend(alloc, block, judged)?;
     Ok(())
 }

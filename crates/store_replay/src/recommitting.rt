@@ -1,7 +1,8 @@
 //! Stored blocks as a chain again.
 
-ghost use Rattle.std.specs.Prelude.{◌≡◌, true, [], ◌∷◌, ◌++◌, IfOk, IfSome, OnOk, OnErr, IfErr};
+ghost use Rattle.std.specs.Prelude.{◌≡◌, true, [], ◌∷◌, ◌++◌, IfOk, IfSome, OnOk, OnErr, IfErr, length};
 ghost use Rattle.fab_types.specs.Committed.{Committed};
+ghost use Rattle.ledger_model.specs.Chain.{Chain};
 ghost use Rattle.ledger_model.specs.Judged.{BlockRule};
 ghost use Rattle.committer.specs.Fits.{IsRefused, blocks_of};
 ghost use Rattle.ledger_setting.specs.Judging.{IsJudged};
@@ -9,7 +10,7 @@ ghost use Rattle.ledger_setting.specs.Rule.{table_of};
 ghost use Rattle.store_replay.specs.Lawful.{AreLawful, IsNextRefused, IsRecommitRefused, StopsAt};
 ghost use Rattle.store_replay.specs.Replay.{HasTheFlags};
 ghost use Rattle.store_replay.specs.Tags.{orgs_kept, right_in_record};
-ghost use Rattle.world_state.specs.Kept.{kept_of};
+ghost use Rattle.world_state.specs.Kept.{IsKeptOf, kept_of};
 
 use crate::pending::Pending;
 use crate::pushing::judge_record;
@@ -22,45 +23,46 @@ use fab_types::CommittedBlock;
 use policy_language::OrgSet;
 use std::alloc::Global;
 use std::thread::Threads;
-use world_state::{Judged, Snapshot};
+use world_state::{Judged, Past, Snapshot};
 
-/// The refusal of a record whose block is not committed behind a chain.
-fn refused(snapshot: &Snapshot, cause: CommitRefusal) -> RecommitRefusal
-    ensures { (rule : BlockRule) (stored : Committed) →
-        IsRefused cause (blocks_of snapshot.now) stored.block →
-        IsNextRefused rule snapshot.now stored result }
+/// The refusal of a record whose block is not committed behind a chain of this height.
+fn refused(height: u32, cause: CommitRefusal) -> RecommitRefusal
+    ensures { (rule : BlockRule) (chain : Chain) (stored : Committed) → height ≡ length chain →
+        IsRefused cause (blocks_of chain) stored.block → IsNextRefused rule chain stored result }
 {
     match cause {
         CommitRefusal::Memory => RecommitRefusal::Memory,
-        cause => RecommitRefusal::Unfit(snapshot.height() + 1, cause),
+        cause => RecommitRefusal::Unfit(height as usize + 1, cause),
     }
 }
 
-/// What the block of a record is judged to be, where the record has the flags of the table.
-fn judge_as_stored(
+/// What the block of a record is judged to be behind a chain of which this is kept, where the record
+/// has the flags of the table.
+pub fn judge_as_stored<P: Past>(
     alloc: Global,
     rules: &Rules,
-    snapshot: &Snapshot,
+    past: &P,
     stored: &CommittedBlock,
     right: Option<&[OrgSet]>,
 ) -> Result<Judged, RecommitRefusal>
     requires { IfSome right
         (λ orgs. orgs.now
-        ≡ right_in_record (orgs_kept rules.now (kept_of snapshot.now)) stored.now) }
-    ensures judged { IfOk result
-        (λ judged. IsJudged (table_of rules.now) snapshot.now stored.now.block judged) }
-    ensures flags { OnOk result (HasTheFlags (table_of rules.now) snapshot.now stored.now true) }
-    ensures refused { IfErr result
-        (λ r. IsNextRefused (table_of rules.now) snapshot.now stored.now r) }
+        ≡ right_in_record (orgs_kept rules.now (P.kept past.now)) stored.now) }
+    ensures judged { (chain : Chain) → IsKeptOf (P.kept past.now) chain →
+        IfOk result (λ judged. IsJudged (table_of rules.now) chain stored.now.block judged) }
+    ensures flags { (chain : Chain) → IsKeptOf (P.kept past.now) chain →
+        OnOk result (HasTheFlags (table_of rules.now) chain stored.now true) }
+    ensures refused { (chain : Chain) → IsKeptOf (P.kept past.now) chain →
+        IfErr result (λ r. IsNextRefused (table_of rules.now) chain stored.now r) }
 {
-    match judge_record(alloc, rules, snapshot, stored, right) {
+    match judge_record(alloc, rules, past, stored, right) {
         Ok((judged, is_same)) => {
             if !is_same {
-                return Err(RecommitRefusal::Flags(snapshot.height() + 1));
+                return Err(RecommitRefusal::Flags(past.height() as usize + 1));
             }
             Ok(judged)
         }
-        Err(cause) => Err(refused(snapshot, cause)),
+        Err(cause) => Err(refused(past.height(), cause)),
     }
 }
 

@@ -10,7 +10,7 @@ use Rattle.cli_peer.proofs.peering.answer_line.Goals as goal
 
 pub returns-then-not-is_text-clause-prints : goal.returns-then-not-is_text-clause-prints
 returns-then-not-is_text-clause-prints g c =
-    let p = peer_of c.args.answering.now in
+    let p = peer_of g.D.StoreFile.is_known c.args.setting.now.answering in
     let chain = (held_by c.args.peer.now).chain in
     let asked = c.args.asked.now in
     prints_so (DoesAsked p c.args.number chain c.args.round.now.line.items asked.request asked.tag.now asked.words.now) c.args.out.now

@@ -20,14 +20,14 @@ loop-number-init g c =
       round = c.requires.round;
       kept = refl;
       stores = stores_none g.D.Write.contents {E = Failure} c.args.reader.now.peer (Ok (tt {0}));
-      done = none_done (DoesLine (peer_of c.args.setting.now.answering)) (left_behind c.args.round.now.lines.items c.args.lines.now.left)
+      done = none_done (DoesLine (peer_of g.D.StoreFile.is_known c.args.setting.now.answering)) (left_behind c.args.round.now.lines.items c.args.lines.now.left)
           (reached c.args.reader.now) c.args.out.now;
     }
 
 pub loop-number-preserved : goal.loop-number-preserved
 loop-number-preserved g c =
     let inv = c.loop-number.invariant in
-    let p = peer_of c.args.setting.now.answering in
+    let p = peer_of g.D.StoreFile.is_known c.args.setting.now.answering in
     let n = c.loop-number.number in
     let input = left_behind c.args.round.now.lines.items c.args.lines.now.left in
     let after = input_of c.next.new.self c.next.new.lines in
@@ -52,7 +52,7 @@ loop-number-preserved g c =
 
 pub returns-then-not-there-clause-answers : goal.returns-then-not-there-clause-answers
 returns-then-not-there-clause-answers g c =
-    let p = peer_of c.args.setting.now.answering in
+    let p = peer_of g.D.StoreFile.is_known c.args.setting.now.answering in
     let first = reached c.args.reader.now in
     let mid = reached c.loop-number.reader in
     let t = c.next.new.out in
@@ -64,7 +64,7 @@ returns-then-not-there-clause-answers g c =
 pub returns-then-not-there-clause-told : goal.returns-then-not-there-clause-told
 returns-then-not-there-clause-told g c =
     let contents = g.D.Write.contents in
-    let p = peer_of c.args.setting.now.answering in
+    let p = peer_of g.D.StoreFile.is_known c.args.setting.now.answering in
     let input = left_behind c.args.round.now.lines.items c.args.lines.now.left in
     let left = left_behind c.loop-number.round.lines.items c.loop-number.lines.left in
     let first = c.args.reader.now in
@@ -77,7 +77,7 @@ returns-then-not-there-clause-told g c =
 
 pub returns-then-not-there-clause-tells : goal.returns-then-not-there-clause-tells
 returns-then-not-there-clause-tells g c =
-    let p = peer_of c.args.setting.now.answering in
+    let p = peer_of g.D.StoreFile.is_known c.args.setting.now.answering in
     let told = done_kept (DoesLine p) (left_behind c.args.round.now.lines.items c.args.lines.now.left) (left_behind c.loop-number.round.lines.items c.loop-number.lines.left) (reached c.args.reader.now) c.loop-number.number
     (reached c.loop-number.reader) c.args.out.now c.loop-number.out c.next.new.out c.loop-number.invariant.done
     (λ text printed. c.in_ok-there.ensures.told c.args.out.now text printed) in
@@ -87,7 +87,7 @@ pub returns-in_err-take_line : goal.returns-in_err-take_line
 returns-in_err-take_line g c =
     let by = err_from_is_err_and c.from_residual-in_err-take_line.result c.from_residual-in_err-take_line.ensures.1 in
     let inv = c.loop-number.invariant in
-    let p = peer_of c.args.setting.now.answering in
+    let p = peer_of g.D.StoreFile.is_known c.args.setting.now.answering in
     let n = c.loop-number.number in
     let lent = c.next.new.self.line.items in
     let first = reached c.args.reader.now in
@@ -124,7 +124,7 @@ returns-in_err-take_line g c =
 pub returns-in_err-there : goal.returns-in_err-there
 returns-in_err-there g c =
     let by = err_from_is_err_and c.from_residual.result c.from_residual.ensures.1 in
-    let p = peer_of c.args.setting.now.answering in
+    let p = peer_of g.D.StoreFile.is_known c.args.setting.now.answering in
     rw (by.1, by.2) (record {
       tells = tells_then c.args.out.now c.loop-number.out c.next.new.out c.in_err-there.field-0.0 c.loop-number.invariant.done.prints.more
           c.in_err-there.ensures.tells;
@@ -143,7 +143,7 @@ returns-in_err-there g c =
 pub returns-clause-told : goal.returns-clause-told
 returns-clause-told g c =
     let contents = g.D.Write.contents in
-    let p = peer_of c.args.setting.now.answering in
+    let p = peer_of g.D.StoreFile.is_known c.args.setting.now.answering in
     let first = c.args.reader.now in
     let mid = c.loop-number.reader in
     let t = c.loop-number.out in
@@ -160,7 +160,7 @@ returns-clause-kept g c = c.loop-number.invariant.kept
 
 pub returns-then-not-there-clause-leads : goal.returns-then-not-there-clause-leads
 returns-then-not-there-clause-leads g c =
-    let p = peer_of c.args.setting.now.answering in
+    let p = peer_of g.D.StoreFile.is_known c.args.setting.now.answering in
     let first = reached c.args.reader.now in
     let mid = reached c.loop-number.reader in
     all_lead p (left_behind c.args.round.now.lines.items c.args.lines.now.left) (input_of c.loop-number.round c.loop-number.lines)

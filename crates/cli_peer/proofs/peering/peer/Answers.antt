@@ -37,24 +37,29 @@ returns-in_err-lines g c =
 
 pub returns-clause-answers : goal.returns-clause-answers
 returns-clause-answers g c =
-    let p = asked_by c.args.log.now c.args.asked.now in
+    let p = λ (keeps : Bool). asked_by keeps c.args.log.now c.args.asked.now in
+    let known = g.F.Files.is_known in
+    let held = g.F.Store.Write.contents c.in-Some.file in
     let t = c.args.out.now in
     let u = c.peer_to.new.out in
     let r = c.peer_to.result in
     let left = c.in_ok-lines.ensures.whole ∙ c.input.ensures.read ∙ c.in-Some.ensures.input in
-    subst (λ (held : Option (List ℕ)). Answers (Peers p held (g.F.Files.input_bytes c.args.files.now)) t u r) c.in-Some.ensures.held
-    (subst (λ (input : Option (List ℕ)). Answers (Peers p (g.F.Store.Write.contents c.in-Some.file) input) t u r) left c.peer_to.ensures.answers)
+    subst (λ (held : Option (List ℕ)). Answers (Peers (p known) held (g.F.Files.input_bytes c.args.files.now)) t u r) c.in-Some.ensures.held
+    (subst (λ (input : Option (List ℕ)). Answers (Peers (p known) held input) t u r) left
+    (subst (λ (k : Bool). Answers (Peers (p k) held c.in_ok-lines.lines.left) t u r) c.open_store.ensures.known c.peer_to.ensures.answers))
 
 pub returns-clause-begins : goal.returns-clause-begins
 returns-clause-begins g c =
-    let p = asked_by c.args.log.now c.args.asked.now in
+    let p = λ (keeps : Bool). asked_by keeps c.args.log.now c.args.asked.now in
+    let known = g.F.Files.is_known in
+    let held = g.F.Store.Write.contents c.in-Some.file in
     let t = c.args.out.now in
     let u = c.peer_to.new.out in
     let r = c.peer_to.result in
     let left = c.in_ok-lines.ensures.whole ∙ c.input.ensures.read ∙ c.in-Some.ensures.input in
-    subst (λ (held : Option (List ℕ)). Begins (PeersBegin p held (g.F.Files.input_bytes c.args.files.now)) t u r) c.in-Some.ensures.held
-    (subst (λ (input : Option (List ℕ)). Begins (PeersBegin p (g.F.Store.Write.contents c.in-Some.file) input) t u r) left
-    c.peer_to.ensures.begins)
+    subst (λ (held : Option (List ℕ)). Begins (PeersBegin (p known) held (g.F.Files.input_bytes c.args.files.now)) t u r) c.in-Some.ensures.held
+    (subst (λ (input : Option (List ℕ)). Begins (PeersBegin (p known) held input) t u r) left
+    (subst (λ (k : Bool). Begins (PeersBegin (p k) held c.in_ok-lines.lines.left) t u r) c.open_store.ensures.known c.peer_to.ensures.begins))
 
 pub returns-clause-others : goal.returns-clause-others
 returns-clause-others g c =
@@ -101,18 +106,20 @@ returns-clause-keeps g c =
 pub returns-clause-holds : goal.returns-clause-holds
 returns-clause-holds g c =
     let bytes = g.F.Files.bytes in
-    let p = asked_by c.args.log.now c.args.asked.now in
+    let by = λ (keeps : Bool). asked_by keeps c.args.log.now c.args.asked.now in
     let name = c.args.asked.now.store.now in
     let before = bytes c.args.files.now in
     let mid = bytes c.watch-watch.new.self in
     let after = bytes c.peer_to.new.files in
     let known = g.F.Files.is_known in
+    let p = by known in
     let r = c.peer_to.result in
     let same = ap (λ (h : FilesHeld). h name) (c.watch-watch.ensures.kept ∙ c.input.ensures.kept) in
     let left = c.in_ok-lines.ensures.whole ∙ c.input.ensures.read ∙ c.in-Some.ensures.input in
     holds_from known p name (g.F.Files.input_bytes c.args.files.now) before mid after r
     (λ is. same ∙ c.in-Some.ensures.there is ∙ c.in-Some.ensures.held ∙ ap (λ (k : Bool). opened_bytes k (bytes c.args.files.now name)) is)
-    (subst (λ (input : Option (List ℕ)). OnOk r (HoldsReached known p name input mid after)) left c.peer_to.ensures.holds)
+    (subst (λ (input : Option (List ℕ)). OnOk r (HoldsReached known p name input mid after)) left
+    (subst (λ (k : Bool). OnOk r (HoldsReached known (by k) name c.in_ok-lines.lines.left mid after)) c.open_store.ensures.known c.peer_to.ensures.holds))
 
 pub returns-in_default-clause-told : goal.returns-in_default-clause-told
 returns-in_default-clause-told g c = λ is. inl (nothing_same c.args.out.now)
@@ -120,16 +127,18 @@ returns-in_default-clause-told g c = λ is. inl (nothing_same c.args.out.now)
 pub returns-clause-told : goal.returns-clause-told
 returns-clause-told g c =
     let bytes = g.F.Files.bytes in
-    let p = asked_by c.args.log.now c.args.asked.now in
+    let by = λ (keeps : Bool). asked_by keeps c.args.log.now c.args.asked.now in
     let name = c.args.asked.now.store.now in
     let before = bytes c.args.files.now in
     let mid = bytes c.watch-watch.new.self in
     let after = bytes c.peer_to.new.files in
     let known = g.F.Files.is_known in
+    let p = by known in
     let t = c.args.out.now in
     let u = c.peer_to.new.out in
     let same = ap (λ (h : FilesHeld). h name) (c.watch-watch.ensures.kept ∙ c.input.ensures.kept) in
     let left = c.in_ok-lines.ensures.whole ∙ c.input.ensures.read ∙ c.in-Some.ensures.input in
     told_from known p name (g.F.Files.input_bytes c.args.files.now) before mid after t u
     (λ is. same ∙ c.in-Some.ensures.there is ∙ c.in-Some.ensures.held ∙ ap (λ (k : Bool). opened_bytes k (bytes c.args.files.now name)) is)
-    (subst (λ (input : Option (List ℕ)). KeepsTold known p name input mid after t u) left c.peer_to.ensures.told)
+    (subst (λ (input : Option (List ℕ)). KeepsTold known p name input mid after t u) left
+    (subst (λ (k : Bool). KeepsTold known (by k) name c.in_ok-lines.lines.left mid after t u) c.open_store.ensures.known c.peer_to.ensures.told))

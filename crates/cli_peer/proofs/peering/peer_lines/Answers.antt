@@ -14,7 +14,7 @@ use Rattle.cli_peer.proofs.peering.peer_lines.Goals as goal
 
 pub returns-clause-answers : goal.returns-clause-answers
 returns-clause-answers g c =
-    let p = peer_of c.args.setting.now.answering in
+    let p = peer_of g.D.StoreFile.is_known c.args.setting.now.answering in
     let input = c.args.lines.now.left in
     let left = ap (λ (ls : List (Vec ℕ)). left_behind ls input) c.new-round.ensures.lines ∙ left_none input in
     subst (λ (i : Option Bytes). Answers (PeersLines p (reached c.args.reader.now) i) c.args.out.now c.do_lines.new.out c.do_lines.result) left
@@ -22,7 +22,7 @@ returns-clause-answers g c =
 
 pub returns-clause-told : goal.returns-clause-told
 returns-clause-told g c =
-    let p = peer_of c.args.setting.now.answering in
+    let p = peer_of g.D.StoreFile.is_known c.args.setting.now.answering in
     let input = c.args.lines.now.left in
     let left = ap (λ (ls : List (Vec ℕ)). left_behind ls input) c.new-round.ensures.lines ∙ left_none input in
     subst (λ (i : Option Bytes). BeginsSo (TellsLines g.D.Write.contents p c.args.reader.now c.do_lines.new.reader i) c.args.out.now c.do_lines.new.out) left
@@ -30,7 +30,7 @@ returns-clause-told g c =
 
 pub returns-clause-leads : goal.returns-clause-leads
 returns-clause-leads g c =
-    let p = peer_of c.args.setting.now.answering in
+    let p = peer_of g.D.StoreFile.is_known c.args.setting.now.answering in
     let input = c.args.lines.now.left in
     let left = ap (λ (ls : List (Vec ℕ)). left_behind ls input) c.new-round.ensures.lines ∙ left_none input in
     subst (λ (i : Option Bytes). OnOk c.do_lines.result (LeadTo p (reached c.args.reader.now) i (reached c.do_lines.new.reader))) left

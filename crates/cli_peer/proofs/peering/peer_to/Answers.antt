@@ -1,4 +1,4 @@
-use Rattle.std.proofs.Common.{[], ◌∷◌, Err, false, IfSome, OnOk, ap, inl, inr, refl, subst, sym}
+use Rattle.std.proofs.Common.{◌≡◌, ◌∙◌, [], ◌∷◌, Err, false, true, IfSome, IsSome, OnOk, ap, inl, inr, refl, subst, sym}
 use Rattle.orderer.specs.Ordering.{Ordering}
 use Rattle.log_peer.specs.Holding.{HoldsRecords, KeepsRecords}
 use Rattle.log_peer.specs.Peering.{file_of, held_by}
@@ -16,12 +16,12 @@ use Rattle.cli_peer.specs.Running.{reached}
 use Rattle.peer_answers.specs.Setting.{peer_of}
 use Rattle.cli_peer.specs.declared.peering.Reader.{Reader}
 use Rattle.cli_peer.proofs.Filters.{ended_by, start_ended}
-use Rattle.cli_peer.proofs.Keeping.{closed_holds, closed_keeps, closed_told, held_then, peer_begins, unopened_told}
+use Rattle.cli_peer.proofs.Keeping.{closed_holds, closed_keeps, closed_told, held_then, peer_begins, some_so, unopened_told}
 use Rattle.cli_peer.proofs.peering.peer_to.Goals as goal
 
 pub returns-in-Ok-clause-answers : goal.returns-in-Ok-clause-answers
 returns-in-Ok-clause-answers g c =
-    let p = peer_of c.args.setting.now.answering in
+    let p = peer_of g.F.Store.StoreFile.is_known c.args.setting.now.answering in
     let chain = (held_by c.in-Ok.peer).chain in
     let cut = c.in-Ok.cut in
     let input = c.args.lines.now.left in
@@ -37,7 +37,7 @@ returns-in-Ok-clause-answers g c =
 
 pub returns-in-Err-clause-answers : goal.returns-in-Err-clause-answers
 returns-in-Err-clause-answers g c =
-    let p = peer_of c.args.setting.now.answering in
+    let p = peer_of g.F.Store.StoreFile.is_known c.args.setting.now.answering in
     let held = g.F.Store.Write.contents c.args.file in
     let cause = c.in-Err.unopened.refusal in
     let t = c.args.out.now in
@@ -49,7 +49,7 @@ returns-in-Err-clause-answers g c =
 pub returns-in-Ok-clause-begins : goal.returns-in-Ok-clause-begins
 returns-in-Ok-clause-begins g c =
     let contents = g.F.Store.Write.contents in
-    let p = peer_of c.args.setting.now.answering in
+    let p = peer_of g.F.Store.StoreFile.is_known c.args.setting.now.answering in
     let held = held_by c.in-Ok.peer in
     let old : Reader g.row.F-Store.Denot = record { peer = c.in-Ok.peer; begun = false } in
     let opens = ap (λ (log : Ordering). let r : Reached = record { held = record { log = log; chain = held.chain }; begun = false } in r) c.in-Ok.ensures.unread in
@@ -58,7 +58,7 @@ returns-in-Ok-clause-begins g c =
 
 pub returns-in-Err-clause-begins : goal.returns-in-Err-clause-begins
 returns-in-Err-clause-begins g c =
-    let p = peer_of c.args.setting.now.answering in
+    let p = peer_of g.F.Store.StoreFile.is_known c.args.setting.now.answering in
     let held = g.F.Store.Write.contents c.args.file in
     let cause = c.in-Err.unopened.refusal in
     λ broken. start_ended (PeersBegin p held c.args.lines.now.left) c.args.out.now c.end-failure.new.out c.end-failure.result (store_text cause)
@@ -70,7 +70,7 @@ pub returns-in-Ok-clause-told : goal.returns-in-Ok-clause-told
 returns-in-Ok-clause-told g c =
     let bytes = g.F.Files.bytes in
     let contents = g.F.Store.Write.contents in
-    let p = peer_of c.args.setting.now.answering in
+    let p = peer_of g.F.Store.StoreFile.is_known c.args.setting.now.answering in
     let name = c.args.setting.now.store.now in
     let input = c.args.lines.now.left in
     let old = c.in-Ok.peer in
@@ -89,7 +89,7 @@ returns-in-Ok-clause-told g c =
 pub returns-in-Err-clause-told : goal.returns-in-Err-clause-told
 returns-in-Err-clause-told g c =
     let bytes = g.F.Files.bytes in
-    let p = peer_of c.args.setting.now.answering in
+    let p = peer_of g.F.Store.StoreFile.is_known c.args.setting.now.answering in
     let contents = g.F.Store.Write.contents in
     let held = contents c.args.file in
     let cause = c.in-Err.unopened.refusal in
@@ -117,7 +117,7 @@ pub returns-in-Ok-clause-holds : goal.returns-in-Ok-clause-holds
 returns-in-Ok-clause-holds g c =
     let bytes = g.F.Files.bytes in
     let contents = g.F.Store.Write.contents in
-    let p = peer_of c.args.setting.now.answering in
+    let p = peer_of g.F.Store.StoreFile.is_known c.args.setting.now.answering in
     let name = c.args.setting.now.store.now in
     let old = c.in-Ok.peer in
     let new = c.peer_behind-ended.new.reader in
@@ -152,3 +152,13 @@ returns-in-Err-clause-others g c =
     let bytes = g.F.Files.bytes in
     changes_from g.F.Files.is_known (c.args.setting.now.store.now ∷ []) (bytes c.args.files.now) (bytes c.explain_store.new.files)
     (bytes c.close_store-in-Err.new.self) c.explain_store.ensures.kept c.close_store-in-Err.ensures.others
+
+-- ---- what it reads by
+
+pub peer_behind-requires-clause-reader : goal.peer_behind-requires-clause-reader
+peer_behind-requires-clause-reader g c κs within =
+    let contents = g.F.Store.Write.contents in
+    let peer = c.in-Ok.peer in
+    let holds = λ (is : g.F.Store.StoreFile.is_known ≡ true). let writes = sym c.requires.known ∙ is in
+    some_so (contents c.args.file) (HoldsChain contents peer) (subst IsSome (sym (c.requires.there writes)) (c.requires.made writes)) c.in-Ok.ensures.holds in
+    ((c.in-Ok.ensures.stored, holds), c.in-Ok.ensures.rules)

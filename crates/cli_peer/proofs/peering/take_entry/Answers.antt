@@ -10,7 +10,7 @@ use Rattle.cli_peer.specs.Logged.{EndsEntry, IsLogged, Reached, TellsEntry}
 use Rattle.cli_peer.specs.Running.{reached}
 use Rattle.cli_peer.specs.Keeping.{HoldsChain}
 use Rattle.cli_peer.proofs.Filters.{done_so, ended_by, handed_so, start_by, start_ended, start_handed, tells_behind}
-use Rattle.cli_peer.proofs.Entries.{line_logged}
+use Rattle.cli_peer.proofs.Entries.{all_handed, line_logged}
 use Rattle.cli_peer.proofs.Keeping.{stores_none, stores_read}
 use Rattle.cli_peer.proofs.peering.take_entry.Goals as goal
 
@@ -135,7 +135,9 @@ returns-in_ok-print_entry-in-Ok-clause-tells g c =
 
 pub returns-in_ok-print_entry-in-Ok-clause-reader : goal.returns-in_ok-print_entry-in-Ok-clause-reader
 returns-in_ok-print_entry-in-Ok-clause-reader g c =
-    printed_on_ok c.flush.result _ _ (λ handed. (c.in-Ok.ensures.stored, c.read.ensures.rules ∙ c.requires.reader.1)) c.flush.ensures.handed_on
+    printed_on_ok c.flush.result _ _
+    (λ handed. ((c.in-Ok.ensures.stored, λ is. c.in-Ok.ensures.holds (c.requires.reader.0.1 is)), c.read.ensures.rules ∙ c.requires.reader.1))
+    c.flush.ensures.handed_on
 
 pub returns-in_ok-print_entry-in-Ok-clause-kept : goal.returns-in_ok-print_entry-in-Ok-clause-kept
 returns-in_ok-print_entry-in-Ok-clause-kept g c = c.print_entry.ensures.kept ∙ c.explain_open.ensures.kept
@@ -162,3 +164,10 @@ returns-in_err-print_entry-in-Ok-clause-stores g c =
 pub returns-in_ok-print_entry-in-Ok-clause-stores : goal.returns-in_ok-print_entry-in-Ok-clause-stores
 returns-in_ok-print_entry-in-Ok-clause-stores g c =
     stores_read g.D.Write.contents c.args.reader.now.peer c.read.new.self c.flush.result c.read.ensures.grows c.in-Ok.ensures.holds
+
+-- ---- what joined the chain is handed out
+
+pub print_entry-requires-clause-joined : goal.print_entry-requires-clause-joined
+print_entry-requires-clause-joined g c κs within =
+    let read = c.in-Ok.ensures.read in
+    all_handed (held_by c.read.new.self).chain read.0 c.in-Ok.report read.1 c.in-Ok.ensures.joined

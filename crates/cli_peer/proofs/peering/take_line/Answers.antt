@@ -16,7 +16,7 @@ use Rattle.cli_peer.proofs.peering.take_line.Goals as goal
 
 pub returns-in-Some-Log-clause-does : goal.returns-in-Some-Log-clause-does
 returns-in-Some-Log-clause-does g c =
-    let p = peer_of c.args.setting.now.answering in
+    let p = peer_of g.D.StoreFile.is_known c.args.setting.now.answering in
     let l = c.args.round.now.line.items in
     let n = c.args.number in
     let old = reached c.args.reader.now in
@@ -29,7 +29,7 @@ returns-in-Some-Log-clause-does g c =
 
 pub returns-in-Some-Log-clause-told : goal.returns-in-Some-Log-clause-told
 returns-in-Some-Log-clause-told g c =
-    let p = peer_of c.args.setting.now.answering in
+    let p = peer_of g.D.StoreFile.is_known c.args.setting.now.answering in
     let l = c.args.round.now.line.items in
     let n = c.args.number in
     let old = reached c.args.reader.now in
@@ -42,7 +42,7 @@ returns-in-Some-Log-clause-told g c =
 
 pub returns-in-Some-Ask-clause-does : goal.returns-in-Some-Ask-clause-does
 returns-in-Some-Ask-clause-does g c =
-    let p = peer_of c.args.setting.now.answering in
+    let p = peer_of g.D.StoreFile.is_known c.args.setting.now.answering in
     let l = c.args.round.now.line.items in
     let n = c.args.number in
     let old = reached c.args.reader.now in
@@ -61,7 +61,7 @@ returns-in-Some-Ask-clause-does g c =
 
 pub returns-in-Some-Ask-clause-told : goal.returns-in-Some-Ask-clause-told
 returns-in-Some-Ask-clause-told g c =
-    let p = peer_of c.args.setting.now.answering in
+    let p = peer_of g.D.StoreFile.is_known c.args.setting.now.answering in
     let l = c.args.round.now.line.items in
     let n = c.args.number in
     let contents = g.D.Write.contents in
@@ -85,7 +85,7 @@ returns-in-Some-Ask-clause-reader g c = printed_on_ok c.answer_line.result _ _ (
 pub returns-in-Some-Log-clause-round : goal.returns-in-Some-Log-clause-round
 returns-in-Some-Log-clause-round g c =
     printed_on_ok c.take_entry.result _ _
-    (λ waits. round_forgotten (peer_of c.args.setting.now.answering) (held_by c.args.reader.now.peer).chain (held_by c.take_entry.new.reader.peer).chain
+    (λ waits. round_forgotten (peer_of g.D.StoreFile.is_known c.args.setting.now.answering) (held_by c.args.reader.now.peer).chain (held_by c.take_entry.new.reader.peer).chain
     c.args.round.now c.forget.new.self c.requires.round c.forget.ensures.answers c.forget.ensures.lines) c.take_entry.ensures.handed_on
 
 pub returns-in-Some-Log-clause-kept : goal.returns-in-Some-Log-clause-kept
@@ -96,7 +96,7 @@ returns-in-Some-Ask-clause-kept g c = c.answer_line.ensures.kept
 
 pub returns-clause-does : goal.returns-clause-does
 returns-clause-does g c =
-    let p = peer_of c.args.setting.now.answering in
+    let p = peer_of g.D.StoreFile.is_known c.args.setting.now.answering in
     let l = c.args.round.now.line.items in
     let n = c.args.number in
     let old = reached c.args.reader.now in
@@ -108,7 +108,7 @@ returns-clause-does g c =
 
 pub returns-clause-told : goal.returns-clause-told
 returns-clause-told g c =
-    let p = peer_of c.args.setting.now.answering in
+    let p = peer_of g.D.StoreFile.is_known c.args.setting.now.answering in
     let l = c.args.round.now.line.items in
     let n = c.args.number in
     let contents = g.D.Write.contents in

@@ -1,15 +1,48 @@
+use Rattle.std.proofs.Common.{rules}
 use Rattle.ledger_setting.specs.Rule.{table_of}
-use Rattle.store_replay.proofs.Pushed.{stands}
+use Rattle.world_state.proofs.Keeping.{kept_is}
 use Rattle.world_state.specs.Kept.{kept_of}
 use Rattle.store_replay.specs.Tags.{orgs_kept}
+use Rattle.store_replay.proofs.Pushed.{for_memory, is_next, is_of, stands}
 use Rattle.store_replay.proofs.RightTags.{of_lent}
 use Rattle.store_replay.proofs.recommitting.recommit_with.Goals as goal
-
-pub returns-clause-chain : goal.returns-clause-chain
-returns-clause-chain c =
-    stands (table_of c.args.rules.now) c.args.snapshot.now c.extend.new.self _ c.args.stored c.in_ok-judged.judged c.into_parts-block.ensures.block
-    c.in_ok-judged.ensures.judged c.in_ok-judged.ensures.flags c.in_ok-extend.ensures.extended
 
 pub judge_as_stored-requires : goal.judge_as_stored-requires
 judge_as_stored-requires c =
     of_lent (orgs_kept c.args.rules.now (kept_of c.args.snapshot.now)) c.args.stored c.args.right c.as_deref.result c.requires c.as_deref.ensures.value
+
+pub returns-in_err-judged-clause-refused : goal.returns-in_err-judged-clause-refused
+returns-in_err-judged-clause-refused c =
+    let chain = c.args.snapshot.now in
+    let refused = c.in_err-judged.ensures.refused chain (kept_is chain) in
+    search rules
+
+pub extend-requires-clause-next : goal.extend-requires-clause-next
+extend-requires-clause-next c =
+    let chain = c.args.snapshot.now in
+    is_next (table_of c.args.rules.now) chain _ c.args.stored.block c.in_ok-judged.judged c.into_parts-block.ensures.block
+    (c.in_ok-judged.ensures.judged chain (kept_is chain))
+
+pub extend-requires-clause-judged : goal.extend-requires-clause-judged
+extend-requires-clause-judged c =
+    let chain = c.args.snapshot.now in
+    is_of (table_of c.args.rules.now) chain _ c.args.stored.block c.in_ok-judged.judged c.into_parts-block.ensures.block
+    (c.in_ok-judged.ensures.judged chain (kept_is chain))
+
+pub returns-in_err-extend-clause-refused : goal.returns-in_err-extend-clause-refused
+returns-in_err-extend-clause-refused c =
+    let chain = c.args.snapshot.now in
+    let next = for_memory (table_of c.args.rules.now) chain c.args.stored.block c.in_ok-judged.judged (c.in_ok-judged.ensures.judged chain (kept_is chain)) in
+    search rules
+
+pub returns-clause-chain : goal.returns-clause-chain
+returns-clause-chain c =
+    let chain = c.args.snapshot.now in
+    stands (table_of c.args.rules.now) chain c.extend.new.self _ c.args.stored c.in_ok-judged.judged c.into_parts-block.ensures.block
+    (c.in_ok-judged.ensures.judged chain (kept_is chain)) (c.in_ok-judged.ensures.flags chain (kept_is chain)) c.in_ok-extend.ensures.extended
+
+pub returns-clause-lawful : goal.returns-clause-lawful
+returns-clause-lawful c =
+    let chain = c.args.snapshot.now in
+    let is = c.in_ok-judged.ensures.judged chain (kept_is chain) in
+    (is.fits, c.in_ok-judged.ensures.flags chain (kept_is chain), tt)

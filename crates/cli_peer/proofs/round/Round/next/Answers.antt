@@ -10,13 +10,13 @@ look_ahead-requires-clause-known g c κs within =
     let old = c.args.self.now in
     let filled = subst (λ (b : Bool). IsFilled b old.lines.items c.args.lines.now.left c.fill.new.self.lines.items c.fill.new.lines.left) c.if-there.true
     c.in_ok-there.ensures.filled in
-    known_on (peer_of c.args.answering.now) c.args.snapshot.now old.answers.items c.fill.new.self.answers.items old.lines.items c.fill.new.self.lines.items
+    known_on (peer_of g.B.Blocks.keeps c.args.answering.now) (g.B.Blocks.chain c.args.blocks.now) old.answers.items c.fill.new.self.answers.items old.lines.items c.fill.new.self.lines.items
     c.args.lines.now.left c.fill.new.lines.left c.requires.round.1 c.fill.ensures.answers filled.1
 
 pub returns-then-there-clause-round : goal.returns-then-there-clause-round
 returns-then-there-clause-round g c =
-    let p = peer_of c.args.answering.now in
-    let chain = c.args.snapshot.now in
+    let p = peer_of g.B.Blocks.keeps c.args.answering.now in
+    let chain = g.B.Blocks.chain c.args.blocks.now in
     let old = c.args.self.now.lines.items in
     let mid = c.fill.new.self.lines.items in
     let before = c.args.lines.now.left in

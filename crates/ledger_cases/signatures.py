@@ -1,9 +1,9 @@
 #!/usr/bin/env python3
-"""Writes `stdin` and `stdout` beside this file: cases of Ed25519 (RFC 8032) and their answers.
+"""Writes the groups of `stdin` and `stdout` beside this file that are of Ed25519 (RFC 8032): cases and their answers.
 
 The answers come from three places, none of which is the program that is tried: the vectors of RFC 8032, section 7.1;
 the program of its section 6 (python/rfc8032.py); and, for keys and messages at random, the Python package
-`cryptography`, which calls OpenSSL. Whatever can be asked of two of them is, and they have to agree. usage: make.py
+`cryptography`, which calls OpenSSL. Whatever can be asked of two of them is, and they have to agree. usage: signatures.py
 """
 import pathlib
 import random
@@ -33,6 +33,9 @@ from rfc8032 import (
     verify,
 )
 
+# What the first group begins with, and the first one behind all of them, which make.py writes.
+FIRST, BEHIND = "\n\n# ed25519: RFC 8032, section 7.1", "\n\n# wire: open definitions"
+
 # ---- lines
 
 questions: list[str] = []
@@ -41,7 +44,7 @@ answers: list[str] = []
 
 def title(text: str) -> None:
     for lines in (questions, answers):
-        lines.extend(([""] if lines else []) + [f"# {line}" for line in text.split("\n")])
+        lines.extend(["", *(f"# {line}" for line in f"ed25519: {text}".split("\n"))])
 
 
 def case(words: str, answer: str, note: str = "") -> None:
@@ -400,8 +403,9 @@ def main() -> None:
     key_cases()
     random_cases()
     bad_lines()
-    (HERE / "stdin").write_text("\n".join(questions) + "\n")
-    (HERE / "stdout").write_text("\n".join(answers) + "\n")
+    for name, lines in (("stdin", questions), ("stdout", answers)):
+        before, _, behind = (HERE / name).read_text().partition(BEHIND)
+        (HERE / name).write_text(before.split(FIRST)[0] + "\n" + "\n".join(lines) + BEHIND + behind)
 
 
 if __name__ == "__main__":
