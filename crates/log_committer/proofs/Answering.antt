@@ -1,6 +1,6 @@
 -- A block comes to one answer, but for want of memory.
-use Rattle.std.proofs.Common.{◌≡◌, ◌≢◌, ◌<◌, ℕ, List, [], ◌∷◌, length, Some, Result, Ok, Err, refl, sym, ap, ◌∙◌, arith}
-use Rattle.std.proofs.lemmas.Option.{same_Some}
+use Rattle.std.proofs.Common.{◌≡◌, ◌≢◌, ◌<◌, ℕ, zero, suc, List, [], ◌∷◌, length, Some, None, Result, Ok, Err, refl, sym, ap, ◌∙◌, arith, option_map}
+use Rattle.std.proofs.lemmas.Option.{same_Some, slice_get_past}
 use Rattle.fab_types.specs.declared.block.Block.{Block}
 use Rattle.ledger_model.specs.Chain.{Bytes, Chain, Committed}
 use Rattle.ledger_model.specs.Judged.{BlockRule}
@@ -14,9 +14,13 @@ use Rattle.log_committer.specs.declared.receiving.Received.TheVariants as receiv
 use Rattle.log_committer.specs.declared.refusal.ReceiveRefusal.{ReceiveRefusal}
 use Rattle.log_committer.specs.declared.refusal.ReceiveRefusal.TheVariants.{Forked, Unfit}
 use Rattle.log_committer.proofs.Agreeing.{one_chain}
-use Rattle.log_committer.proofs.Standing.{none_above}
 
 -- ---- where a block stands
+
+-- none stands above the height
+none_above : (chain : Chain) (number : ℕ) → length chain < number → own_hash chain number ≡ None
+none_above chain zero above = refl
+none_above chain (suc place) above = ap (option_map (λ own. header_hash own.block)) (slice_get_past chain place (omega (arith, above)))
 
 above_has_none : (chain : Chain) (b : Block) (own : Bytes) → length chain < b.header.number → own_hash chain b.header.number ≡ Some own → ⊥
 above_has_none chain b own above at = let h = sym (none_above chain b.header.number above) ∙ at in cc

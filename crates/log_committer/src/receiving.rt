@@ -108,8 +108,13 @@ impl Committer {
             (committed_chain self.new)) }
         ensures same { rules_of self.new ≡ rules_of self.old }
     {
-        let judged =
-            judge_behind_by_workers(workers, self.alloc, &self.rules, &self.chain, &block)?;
+        let judged = judge_behind_by_workers(
+            workers,
+            self.alloc,
+            &self.rules,
+            &self.chain,
+            &block,
+        )?;
         Ok(self.chain.extend(self.alloc, block, judged)?)
     }
 

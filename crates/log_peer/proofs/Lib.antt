@@ -3,3 +3,4 @@ pub mod Stores
 pub mod Peers
 mod Opened
 mod Joined
+mod Given

@@ -11,7 +11,7 @@ use Rattle.ledger_model.specs.Chain.{Chain}
 use Rattle.ledger_model.specs.Judged.{BlockRule}
 use Rattle.block_store.specs.Loading.{Holds, IsBehind, LoadsFrom}
 use Rattle.block_store.specs.Record.{IsRecord, record_bytes}
-use Rattle.block_store.specs.Store.{AreRecords}
+use Rattle.block_store.specs.Store.{AreRecords, Loads}
 use Rattle.block_store.specs.declared.end.End.{End}
 use Rattle.block_store.specs.declared.end.End.TheVariants as end
 use Rattle.block_store.specs.declared.appending.AppendFault.{AppendFault}
@@ -118,3 +118,15 @@ opened_by known before moved cs chain end held cut none from holds e all =
     let begun = subst (λ (b : List ℕ). LoadsFrom b moved known cs end) none from in
     let behind = subst (λ (b : List ℕ). Holds end b moved cs held) none holds in
     subst (λ (c : Chain). IsOpened known c cut) (sym all) (opened_of known moved cs end held cut begun behind e)
+
+loaded_records : (n : ℕ) (bytes : List ℕ) (cs : Chain) (end : End) → Loads n bytes cs end → AreRecords n cs
+loaded_records n bytes [] end h = tt
+loaded_records n bytes (c ∷ cs) end h = (h.1, loaded_records (suc n) h.0 cs end h.3)
+
+-- the records of a store are numbered from 1 on
+pub records_of : (before moved : List ℕ) (known : Option (List ℕ)) (cs : Chain) (end : End) (held cut : ℕ) → LoadsFrom before moved known cs end →
+    cut_of end held ≡ Ok cut → AreRecords 1 cs
+records_of before moved known cs end.Clean held cut from e = loaded_records 1 from.bytes cs end.Clean from.gives
+records_of before moved known cs end.Torn held cut from e = loaded_records 1 from.bytes cs end.Torn from.gives
+records_of before moved known cs (end.Damaged n) held cut from e = absurd (cc e)
+records_of before moved known cs end.DeviceFailed held cut from e = absurd (cc e)

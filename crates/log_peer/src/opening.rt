@@ -47,11 +47,12 @@ impl<'a, T, V> Opening<'a, T, V> {
     /// refused.
     fn finish(self) -> Result<(KeptChain, Places), RecommitRefusal>
         ensures { (cs : Chain) → AreRecords 1 cs →
-            AreOpened (table_of self.recommit.rules.now) self.recommit.chain self.recommit.refused
-            self.places cs →
+            AreOpened (table_of self.entry.recommit.rules.now) self.entry.recommit.chain
+            self.entry.recommit.refused self.entry.places cs →
             MatchResult result
-            (λ p. IsChainOf p.0 p.1 cs × AreLawful (table_of self.recommit.rules.now) [] cs)
-            (IsRecommitRefused (table_of self.recommit.rules.now) cs) }
+            (λ p. IsChainOf p.0 p.1 cs
+            × AreLawful (table_of self.entry.recommit.rules.now) [] cs)
+            (IsRecommitRefused (table_of self.entry.recommit.rules.now) cs) }
     {
         let Opening { recommit, places } = self;
         let chain = recommit.finish()?;
@@ -61,19 +62,20 @@ impl<'a, T, V> Opening<'a, T, V> {
 
 impl<T: Threads + Sync, V: Watch> RecordSink for Opening<'_, T, V> {
     ghost use Rattle.ledger_setting.specs.Rule.{table_of};
-    ghost use Rattle.endorsement_policy.specs.Endorsed.{Listed};
-    ghost use Rattle.log_peer.specs.Opening.{AreOpened};
+    ghost use Rattle.endorsement_policy.specs.Listed.{Listed};
+    ghost use Rattle.log_peer.specs.Opening.{HaveOpened};
 
     ghost Context = { Listed };
 
     ghost context = { λ o. o.recommit.rules.now };
 
-    ghost Took = { λ o cs. AreOpened (table_of o.recommit.rules.now) o.recommit.chain
+    ghost Took = { λ o cs. HaveOpened T.row (table_of o.recommit.rules.now) o.recommit.chain
         o.recommit.refused o.places cs };
 
     fn take(&mut self, records: Vec<CommittedBlock>) -> Result<(), AllocError> {
         push_sizes(&mut self.places, &records)?;
-        self.recommit.take(records)
+        self.recommit.take(records)?;
+        Ok(())
     }
 }
 

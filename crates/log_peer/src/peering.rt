@@ -234,8 +234,7 @@ fn receive_each<D: StoreFile, T: Threads + Sync>(
     ensures received { IfOk result
         (λ told. ReceivesAll (table_of (chain_rules chain.old)) (stored_chain chain.old)
         (blocks_of batches.items) (told_of told.items) (stored_chain chain.new)) }
-    ensures joined {
-        AllByRecursion (λ batch. batch.report.block ≡ number_in batch.block) batches.items →
+    ensures joined { AllByRecursion (λ batch. batch.report.block ≡ number_in batch.block) batches.items →
         IfOk result
         (λ told. AllByRecursion (IsJoinedIn (stored_chain chain.new)) told.items) }
     ensures refused { IfErr result
