@@ -4,6 +4,7 @@ A peer of the program, `ledger peer`, has the store for itself from the beginnin
 cuts the block, judges it and writes. Each organisation's peer, which simulates and signs, works on a copy of the store. Where
 `ledger dev` runs on the store, its node makes the call.
 """
+import collections
 import concurrent.futures
 import dataclasses
 import io
@@ -116,8 +117,10 @@ def by_peer(asked: Asked, program: str) -> Made:
             say(f"{asked.store}: {peer.cut} bytes of a part of a record were cut off")
         if is_new:
             say(f"{asked.store} is a new store")
-        if asked.has_nonce and (earlier := earlier_one(peer, asked.proposal)):
-            return earlier
+        if asked.has_nonce:
+            check_name(peer, asked, program)
+            if tx := peer.answer("transaction", id=wire.id_of(asked.proposal)):
+                return Made(tx["block"], tx, is_earlier=True)
         number, flag = peer.height + 1, next_flag(peer, asked, program)
         return Made(number, {**peer.answer("block", number=number)["txs"][0], "flag": flag})
 
@@ -170,16 +173,6 @@ def tell(lines: Iterable[str]) -> None:
 
 
 # ---------------------------------------------------------------- what the peers say
-
-
-def earlier_one(peer: Peer, proposal: dict[str, str]) -> Made | None:
-    """The transaction that this very proposal is already, if there is one."""
-    wanted = {**proposal, "arg": proposal["arg"].strip("-")}
-    for number in range(1, peer.height + 1):
-        for tx in peer.answer("block", number=number)["txs"]:
-            if all(tx.get(name) == value for name, value in wanted.items()):
-                return Made(number, tx, is_earlier=True)
-    return None
 
 
 def endorsers(peer: Peer, asked: Asked, program: str) -> list[str]:
@@ -248,8 +241,8 @@ def next_flag(peer: Peer, asked: Asked, program: str) -> int:
     """Has the call put into the next block alone, behind all envelopes of the blocks before. The flag that it gets."""
     made = envelope(asked, program, endorsers(peer, asked, program))
     log = [*answered(program, "marks", asked.genesis, asked.store), made, "tick"]
-    lines = [line for text in log for line in peer.read(text)]
-    word, number, _, flag = lines[-1].split()
+    last, = collections.deque((line for text in log for line in peer.read(text)), maxlen=1)
+    word, number, _, flag = last.split()
     if (word, number) != ("committed", str(peer.height + 1)):
-        raise Ended(f"ledger peer says: {lines[-1]}")
+        raise Ended(f"ledger peer says: {last}")
     return int(flag)

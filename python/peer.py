@@ -89,8 +89,11 @@ class Peer:
         return self.line().split(" ", 3)[3]
 
     def answer(self, what: str, **question: object) -> Any:
-        """The answer to a question."""
-        return json.loads(self.said("ask", json.dumps({"ask": what, **question})))
+        """The answer to a question, or that a block is not read back."""
+        said = self.said("ask", json.dumps({"ask": what, **question}))
+        if said.startswith("refused "):
+            raise Refused(said, self.why())
+        return json.loads(said)
 
     def endorsed(self, proposal: dict[str, str]) -> tuple[str, str]:
         """The payload of a call and the organisation's endorsement, in hex."""

@@ -28,6 +28,8 @@ const isAborted = said => ABORTED.includes(said.refused);
 const mayBeTriedAgain = said => CONFLICTS.includes(said.flag) || isAborted(said) || "used_up_by" in said;
 /** Whether no other node is to be asked: one has refused, and not for now alone. */
 const isFinal = error => error instanceof NotValid && error.status !== 503;
+/** Whether a node has not even been asked. */
+const isUnasked = error => ["ECONNREFUSED", "ENOTFOUND"].includes(error.cause?.code ?? error.cause?.cause?.code);
 /** Where calls are posted, so that a node answers before the time is up. */
 const transactions = until => {
   const left = Math.max(0, until - performance.now()) / 1000;
@@ -91,12 +93,13 @@ export class Client {
 
   /**
    * What becomes of a call, whatever that is; `pending` where its time is up. Who asks again for the same waits for it. Where nodes could
-   * do nothing up to the end (503), it ends by `NoAnswer`, as where none answers: one of them may have put the call before.
+   * do nothing up to the end (503), or one refuses behind one that gave no answer, it ends by `NoAnswer`: the call may have been put before.
    */
   async outcome(call, until = performance.now() + 1000 * this.seconds) {
-    for (;;) {
+    for (let mayBePut = false; ; mayBePut = true) {
+      const isCertain = error => error instanceof NoAnswer || isFinal(error) && !mayBePut && !error.mayBeDone;
       const said = await this.ask("POST", transactions(until), call, [], until)
-        .catch(error => { throw isFinal(error) || error instanceof NoAnswer ? error : new NoAnswer(this.nodes, error); });
+        .catch(error => { throw isCertain(error) ? error : new NoAnswer(this.nodes, error); });
       if (!said.pending || until - performance.now() < LEAST) return said;
     }
   }
@@ -169,7 +172,7 @@ export class Client {
 
   /** What a node answers. The next one is asked where one gives no answer, or cannot do it now (503). */
   async ask(method, path, body, accept = [], until = performance.now() + 1000 * this.seconds) {
-    for (;;) {
+    for (let mayBeDone = false; ;) {
       let error;
       try {
         const answer = await this.fetch(this.node + path, { method, headers: { "Content-Type": "application/json" },
@@ -180,7 +183,8 @@ export class Client {
       } catch (failure) {
         error = new NoAnswer(this.nodes, failure);
       }
-      if (isFinal(error) || performance.now() > until) throw error;
+      if (isFinal(error) || performance.now() > until) throw Object.assign(error, { mayBeDone });
+      mayBeDone ||= !isUnasked(error);
       this.turn++;
       await pause(PAUSE);
     }

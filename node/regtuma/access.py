@@ -90,6 +90,11 @@ def only(certificate: x509.Certificate, oid: x509.ObjectIdentifier) -> str:
     return found[0] if len(found) == 1 and isinstance(found[0], str) else ""
 
 
+def type_of(request: web.Request) -> str:
+    """The type of a body, without its parameters: aiohttp parses these, which takes it tens of milliseconds for a long header."""
+    return request.headers.get("Content-Type", "").partition(";")[0].strip().lower()
+
+
 def by_loopback(request: web.Request) -> bool:
     """Whether a request names this machine by a name of the loopback. For one that names none, aiohttp would ask DNS, and wait."""
     return is_loopback(re.sub(r":\d*$", "", request.headers.get("Host", "")))
@@ -141,7 +146,7 @@ class Access:
             caller = self.caller(request)
             if not self.has(caller, right):
                 raise Refused(403, {"why": f"{caller or 'no certificate'} may not {right}"})
-            if request.method == "POST" and request.content_type != "application/json":
+            if request.method == "POST" and type_of(request) != "application/json":
                 # What a page of another site can make a browser send, with its certificate, has another type.
                 raise Refused(415, {"why": "a request has the type application/json"})
             request["right"], request["caller"] = right, caller
@@ -155,7 +160,7 @@ class Access:
             origin = request.headers.get("Origin")
             if not by_loopback(request) or origin not in (None, f"http://{request.host}"):
                 raise Refused(403, {"why": "this node is for programs of this machine, and for its own page"})
-            if request.method == "POST" and request.content_type != "application/json":
+            if request.method == "POST" and type_of(request) != "application/json":
                 raise Refused(415, {"why": "a request has the type application/json"})
             if self.user(request) != os.getuid():
                 raise Refused(403, {"why": f"this node is for the user {os.getuid()} of this machine alone"})

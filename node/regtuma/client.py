@@ -19,6 +19,7 @@ import http.client
 import json
 import os
 import secrets
+import socket
 import ssl
 import threading
 import time
@@ -37,6 +38,8 @@ PAUSE, LEAST = 0.2, 0.5
 SILENCE = 45.0
 # What there is where a node gives no answer, or none that a node gives.
 FAILURES = (OSError, http.client.HTTPException, ValueError)
+# Those behind which a node has not even been asked.
+UNASKED = (ConnectionRefusedError, ssl.SSLCertVerificationError, socket.gaierror)
 # The environment's names of the nodes' URLs, with commas between, and of the files of certificate, key and authority: one for all
 # nodes, or one for each, with commas between too.
 SETTINGS = ("REGTUMA_NODES", "REGTUMA_CERT", "REGTUMA_KEY", "REGTUMA_CA")
@@ -50,6 +53,8 @@ class Failed(Exception):
     def __init__(self, why: str, said: Object | None = None):
         super().__init__(why)
         self.said = said or {}
+        # Whether a node that was asked before may have done it.
+        self.may_be_done = False
 
 
 class Refused(Failed):
@@ -147,16 +152,17 @@ class Client:
     def outcome(self, call: Object, until: float = 0.0) -> Object:
         """What becomes of a call or a change, whatever that is: an answer of the API with `valid`, `refused` or neither; with `pending`
         where its time is up, by the clock of `time.monotonic`, by default after the client's `seconds`. Where nodes could do nothing up to
-        the end (503), it ends by `NoAnswer`, as where none answers: one of them may have put the call before."""
-        until = until or time.monotonic() + self.seconds
+        the end (503), or one refuses behind one that gave no answer, it ends by `NoAnswer`: the call may have been put before."""
+        until, may_be_put = until or time.monotonic() + self.seconds, False
         try:
             while True:
                 # Who asks again for the same call waits for it, or has it put where it is not under way.
                 said = self._ask(dict, "POST", self._transactions(until), call, (), until)
                 if not said.get("pending") or until - time.monotonic() < LEAST:
                     return said
+                may_be_put = True
         except (NoAnswer, Refused) as error:
-            if is_final(error):
+            if is_final(error) and not may_be_put and not error.may_be_done:
                 raise
             raise NoAnswer(str(error), {"id": id_of(call)}) from None
 
@@ -258,17 +264,19 @@ class Client:
         return self._ask(dict, method, path, body, accept)
 
     def _ask(self, kind: type[Kind], method: str, path: str, body: Object | None, accept: tuple[int, ...], until: float = 0.0) -> Kind:
-        link, until = self._link(), until or time.monotonic() + self.seconds
+        link, until, may_be_done = self._link(), until or time.monotonic() + self.seconds, False
         while True:
             try:
                 answer = link.begin(method, path, body, max(LEAST, until - time.monotonic()))
                 if answer.status < 400 or answer.status in accept:
                     return of_kind(kind, json.loads(answer.read()))
                 why: Failed = refusal(answer)
+                why.may_be_done = may_be_done
                 if is_final(why):
                     raise why
+                may_be_done = True
             except FAILURES as error:
-                why = self._why(error)
+                why, may_be_done = self._why(error), may_be_done or not isinstance(error, UNASKED)
             link.leave()
             if time.monotonic() > until:
                 raise why

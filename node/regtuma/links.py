@@ -11,7 +11,7 @@ from .fields import CALLER_HEADER
 from .journal import Quota
 from .proposals import is_hex, matches
 from .turns import Turns
-from .waiting import TooMuch, value_of, whole
+from .waiting import Answer, TooMuch, value_of, whole
 from .wire import Object
 
 ENDORSE_SECONDS, DOWN_SECONDS = 3.0, 5.0
@@ -96,7 +96,8 @@ class Link(Batches):
         connector = aiohttp.TCPConnector(ssl=config.node_tls(organisation), limit_per_host=8)
         # Where there are no certificates, a node says who it is.
         headers = {CALLER_HEADER: f"{config.organisation}/node"} if config.is_local else {}
-        self.http = aiohttp.ClientSession(connector=connector, headers=headers, cookie_jar=aiohttp.DummyCookieJar())
+        self.http = aiohttp.ClientSession(connector=connector, headers=headers, cookie_jar=aiohttp.DummyCookieJar(),
+                                          response_class=Answer)
         # How long it took for a call of late, in seconds, and until when it is passed over; how many answers were not too long together.
         self.each, self.down, self.few = 0.01, 0.0, MOST_PROPOSALS
 

@@ -2,6 +2,7 @@
 import asyncio
 import json
 from collections.abc import Coroutine, Iterable
+from http.cookies import SimpleCookie
 from typing import Any, TypeVar
 
 import aiohttp
@@ -11,6 +12,19 @@ T = TypeVar("T")
 
 class TooMuch(ValueError):
     """Somebody answers more than is read."""
+
+
+class NoCookies(SimpleCookie[str]):
+    def load(self, rawdata: object) -> None:
+        """Nobody wants them."""
+
+
+class Answer(aiohttp.ClientResponse):
+    """An answer of anybody's program. To read the cookies that its headers have room for takes a second."""
+
+    def __init__(self, *args: Any, **more: Any):
+        super().__init__(*args, **more)
+        self.cookies = NoCookies()
 
 
 async def within(seconds: float, doing: Coroutine[Any, Any, T]) -> T:

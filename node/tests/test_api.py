@@ -12,6 +12,7 @@ from unittest import mock
 
 import aiohttp
 import support
+from aiohttp import web
 from aiohttp.test_utils import TestClient, TestServer
 from regtuma import api, config, gateway, load, numbers, pace, page, ticks, wire
 from regtuma.chain import Awaited, Chain
@@ -107,6 +108,16 @@ class Routes(Case):
         for path in ("/transactions", "/endorse", "/evaluate", "/agreed"):
             status, said = await self.ask("POST", path, data="{}", headers={"Content-Type": "text/plain"})
             self.assertEqual((status, said["why"]), (415, "a request has the type application/json"))
+
+    async def test_the_type_of_a_body_is_no_work(self):
+        """aiohttp takes 39 ms of the loop for a header of 8 KB."""
+        def parsed(_) -> str:
+            raise AssertionError
+        with mock.patch.object(web.BaseRequest, "content_type", property(parsed)):
+            for kind, status in (("application/json", 400), ("Application/JSON ; charset=x", 400), (f'application/json;"{";" * 8000}', 400),
+                                 ("text/plain", 415), ("text/plain; application/json", 415), ("application/jsonx", 415), ("", 415)):
+                said = await self.ask("POST", "/evaluate", data="{", headers={"Content-Type": kind})
+                self.assertEqual(said[0], status, kind[:40])
 
     async def test_what_is_no_request(self):
         self.assertEqual((await self.get("/nothing"))[0], 404)

@@ -265,15 +265,16 @@ class Clients(unittest.TestCase):
 
     def test_a_call_may_be_in_the_log_where_nodes_can_do_nothing(self):
         """One of them may have put it, and been cut off before it said so."""
-        client = client_of("https://1:1", "https://2:1")
-        client.seconds = 0.2
-        for later in (503, 403):
-            answers = itertools.chain([ConnectionResetError("gone")], iter(lambda: Answer(later, b'{"why":"not now"}'), None))
-            failure = NoAnswer if later == 503 else Refused
-            with self.subTest(later=later), mock.patch.object(Link, "begin", side_effect=answers), mock.patch.object(clients, "PAUSE", 0.05):
+        client, pending = client_of("https://1:1", "https://2:1"), Answer(200, b'{"pending":true,"why":"later"}')
+        client.seconds = 0.6
+        for first, later in [(ConnectionResetError("gone"), 503), (ConnectionResetError("gone"), 403), (Answer(503, b"{}"), 429), (pending, 429),
+                             (ConnectionRefusedError("none"), 403), (ConnectionRefusedError("none"), 422)]:
+            answers = itertools.chain([first], iter(lambda: Answer(later, b'{"why":"not now"}'), None))
+            failure = Refused if isinstance(first, ConnectionRefusedError) else NoAnswer
+            with self.subTest(first=first, later=later), mock.patch.object(Link, "begin", side_effect=answers), mock.patch.object(clients, "PAUSE", 0.05):
                 with self.assertRaisesRegex(failure, "^not now$") as raised:
                     client.submit("assets", "x", nonce="0f" * 16)
-                self.assertEqual("id" in raised.exception.said, later == 503)
+                self.assertEqual("id" in raised.exception.said, failure == NoAnswer)
 
     def test_a_node_that_says_nothing_is_not_waited_for(self):
         with socket.create_server(("127.0.0.1", 0)) as silent:
@@ -355,11 +356,15 @@ class InJavascript(unittest.TestCase):
 
     def test_a_call_may_be_in_the_log_where_nodes_can_do_nothing(self):
         said = self.said("""
-            for (const status of [503, 403]) {
-              const busy = new Client(["https://1:1"], async () => new Response('{"why":"not now"}', { status }), { seconds: 0.3 });
+            const later = status => () => new Response('{"why":"not now"}', { status }), fails = code => () => { throw { code }; };
+            const pending = () => new Response('{"pending":true,"why":"later"}');
+            for (const [first, status] of [[later(503), 503], [later(403), 403], [fails("ECONNRESET"), 403], [later(503), 429], [pending, 429],
+                                           [fails("ECONNREFUSED"), 422]]) {
+              let asked = 0;
+              const busy = new Client(["https://1:1"], async () => (asked++ ? later(status) : first)(), { seconds: 0.6 });
               await busy.submit("assets", ["x"]).catch(error => console.log(error.name));
             }""")
-        self.assertEqual(said, "NoAnswer\nNotValid\n")
+        self.assertEqual(said, "NoAnswer\nNotValid\nNoAnswer\nNoAnswer\nNoAnswer\nNotValid\n")
 
     def test_a_node_that_says_nothing_is_not_waited_for(self):
         with socket.create_server(("127.0.0.1", 0)) as silent:

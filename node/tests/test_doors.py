@@ -457,6 +457,12 @@ class Doors(unittest.TestCase):
                         self.assertEqual(self.answered(self.connect(name), asked)[0], 400)
         self.assertFalse("Traceback" in self.said(), self.said()[-2000:])
 
+    def test_a_long_path(self):
+        """What its query has takes the node's loop some milliseconds."""
+        for name in ("alice", ""):
+            self.assertEqual(self.get("/height?" + "a&" * 300, name)[0], 200)
+            self.assertEqual(self.get("/height?" + "a&" * 600, name)[0], 400)
+
     def test_a_body_that_breaks_off(self):
         """By bytes that are none of its form, or by the caller's end: the journal has nothing of it."""
         certificate = base64.b64encode(ssl.PEM_cert_to_DER_cert((self.room / "alice.pem").read_text())).decode()

@@ -115,6 +115,15 @@ class Links(unittest.IsolatedAsyncioTestCase):
         self.assertEqual(await asyncio.gather(link.ask("Maker/alice", CALL, 0), link.ask("Maker/alice", CALL, 0)), [None] * 2)
         self.assertEqual((await link.ask("Maker/alice", CALL, 0), self.said), (ANSWER, []))
 
+    async def test_no_cookies_are_read(self):
+        """To read those of all headers of an answer takes a second of the loop, and 140 MiB."""
+        link = await self.link(Cookies(answers(1)), Cookies((200, {})))
+        log = Log([self.node.url], "", "", None)
+        self.addAsyncCleanup(log.close)
+        with mock.patch("http.cookies.BaseCookie.load", side_effect=AssertionError):
+            self.assertEqual(await link.ask("Maker/alice", CALL, 0), ANSWER)
+            self.assertIsNone(await log.read("Maker/x"))
+
     async def test_no_cookies_are_kept(self):
         link = await self.link(Cookies(answers(1)), Cookies(answers(1)), answers(1))
         # Of names alone they are kept.
