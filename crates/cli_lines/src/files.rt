@@ -15,7 +15,8 @@ pub trait Files {
 
     type Writer: Write + Drop;
 
-    type Store: StoreFile;
+    /// The file of a store, of which several threads read at once.
+    type Store: StoreFile + Sync;
 
     type Input: Read + Drop;
 
@@ -94,8 +95,10 @@ pub trait Files {
 
     /// Opens a file for reading, and for writing at its end, and makes it where there is none. The
     /// program has it for itself alone. None where that cannot be done, and where another one has
-    /// the file so, by `lock` too.
+    /// the file so, by `lock` too. It is known what a store holds exactly where it is known what is
+    /// written.
     fn open_store(&mut self, name: &str) -> Option<Self::Store>
+        ensures known { Self.Store.is_known ≡ is_known }
         ensures held { IfSome result
             (λ s. Self.Store.contents s ≡ opened_bytes is_known (bytes self.old name.now)) }
         ensures there { is_known ≡ true →
