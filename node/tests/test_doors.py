@@ -103,6 +103,8 @@ class Doors(unittest.TestCase):
         for name in ("alice", "bob", "eve"):
             made.make(name, f"/O=Maker/CN={name}", by="maker.ca")
         made.make("carrier", "/O=Carrier/CN=node", by="carrier.ca")
+        for name in ("dan", "dora"):
+            made.make(name, f"/O=Carrier/CN={name}", by="carrier.ca")
         made.make("forged", "/O=Maker/CN=alice", by="carrier.ca")
         for name, spelling in SPELLINGS.items():
             made.respell(name, spelling, by="carrier.ca")
@@ -247,22 +249,41 @@ class Doors(unittest.TestCase):
         self.assertEqual((status, said), (403, '{"why":"no certificate may do nothing here"}'))
         self.assertEqual(self.get("/nothing")[0], 404)
 
+    def asks_often(self, name: str, times: int) -> list[int]:
+        """The statuses for what the proxy answers itself, so that a busy machine does as much within ten seconds."""
+        at = self.connect(name)
+        threading.Thread(target=at.sendall, args=(b"GET http://x/ HTTP/1.1\r\nHost: x\r\n\r\n" * times,), daemon=True).start()
+        return [self.answered(at)[0] for _ in range(times)]
+
     def test_a_caller_asks_so_often(self):
-        """Of what the proxy answers itself, so that a busy machine does as much within ten seconds."""
-        at = self.connect("eve")
-        threading.Thread(target=at.sendall, args=(b"GET http://x/ HTTP/1.1\r\nHost: x\r\n\r\n" * 2100,), daemon=True).start()
-        answers = [self.answered(at)[0] for _ in range(2100)]
+        """And what is denied then counts not against others of its organisation."""
+        answers = self.asks_often("eve", 5000)
         self.assertEqual((set(answers[:1000]), answers[-1]), ({400}, 429))
         self.assertEqual(self.get("/height", "eve")[0], 429)
         self.others_are_served()
 
+    def test_an_organisations_node_has_a_share_of_its_own(self):
+        for name in ("dan", "dora"):
+            self.asks_often(name, 2100)
+            for _ in range(105):
+                self.connect(name, source="127.0.0.7")
+        self.come(lambda: self.get("/height", "dora")[0] == 429)
+        self.others_are_served()
+        self.opened.close()
+        self.come(lambda: self.get("/height", "forged")[0] == 403)
+
     def test_an_address_begins_so_many_connections(self):
         """Each costs the proxy a millisecond, also where nothing more is said."""
-        for _ in range(700):
-            with contextlib.suppress(OSError):
-                socket.create_connection(("127.0.0.1", self.port), PATIENCE, ("127.0.0.6", 0)).close()
-        with self.assertRaises(OSError):
-            self.connect("alice", source="127.0.0.6")
+        def is_refused() -> bool:
+            for _ in range(700):
+                with contextlib.suppress(OSError):
+                    socket.create_connection(("127.0.0.1", self.port), PATIENCE, ("127.0.0.6", 0)).close()
+            try:
+                self.connect("alice", source="127.0.0.6")
+                return False
+            except OSError:
+                return True
+        self.come(is_refused)
         self.others_are_served()
 
     def test_an_organisation_has_one_share_however_it_spells_its_name(self):

@@ -23,7 +23,7 @@ use Rattle.json_chain.specs.Entries.{entry_json}
 use Rattle.json_chain.specs.Standing.{orgs_before}
 use Rattle.json_chain.specs.Writes.{did_json, write_json, writes_json}
 use Rattle.json_chain.proofs.Depths.{block_low, did_low, genesis_low, items_low, payload_low, placed_transaction_low, standing_low}
-use Rattle.json_questions.specs.Answers.{answer_json, call_of, has_id, names_among, or_null, outcome_json, part_of, placed_json}
+use Rattle.json_questions.specs.Answers.{answer_from, call_of, has_id, names_among, or_null, outcome_json, part_of, placed_json}
 use Rattle.json_questions.specs.declared.question.Question.{Question}
 use Rattle.json_questions.specs.declared.question.Question.TheVariants.{Setting, Members, Block, Get, Range, History, HistoryPart, Transaction, Satisfied, Call}
 
@@ -45,26 +45,26 @@ writes_low key (t ∷ ts) =
     joined_low 1 (write_json key t) (writes_json key ts)
     (items_low (did_json t key) 1 (did_low t key) (option_to_list (write_of t key))) (writes_low key ts)
 
-pub answer_low : (g : Genesis) (q : Question) (chain : Chain) → depth (answer_json g q chain) ≤ 7
-answer_low g Setting chain = omega (arith, genesis_low g)
-answer_low g Members chain = omega (arith, standing_low g.rules.value (usable_membership g.rules.value.installed.orgs (get (plain_after chain) membership_key)))
-answer_low g (Block n) chain =
+pub answer_low : (g : Genesis) (q : Question) (chain read : Chain) → depth (answer_from g q chain read) ≤ 7
+answer_low g Setting chain read = omega (arith, genesis_low g)
+answer_low g Members chain read = omega (arith, standing_low g.rules.value (usable_membership g.rules.value.installed.orgs (get (plain_after chain) membership_key)))
+answer_low g (Block n) chain read =
     let orgs = orgs_before g.rules.value n chain in
-    or_null_low (block_json orgs) 7 (block_low orgs) (slice_get chain (n - 1))
-answer_low g (Get key) chain =
+    or_null_low (block_json orgs) 7 (block_low orgs) (slice_get read (n - 1))
+answer_low g (Get key) chain read =
     or_null_low (λ (e : Bytes × Version). entry_json key e.0 e.1) 7 (λ e. omega arith) (state_at (history chain) key)
-answer_low g (Range start end limit) chain =
+answer_low g (Range start end limit) chain read =
     omega (
       arith,
       items_low (λ (e : Bytes × (Bytes × Version)). entry_json e.0 e.1.0 e.1.1) 1 (λ e. omega arith) (first (state (history chain)) start end limit),
     )
-answer_low g (History key) chain = omega (arith, writes_low key (history chain))
-answer_low g (HistoryPart key from blocks) chain = omega (arith, writes_low key (part_of from blocks chain))
-answer_low g (Transaction id) chain =
+answer_low g (History key) chain read = omega (arith, writes_low key (history read))
+answer_low g (HistoryPart key from blocks) chain read = omega (arith, writes_low key (part_of from blocks read))
+answer_low g (Transaction id) chain read =
     or_null_low (placed_json g.rules.value chain) 7
-    (λ t. omega (arith, placed_transaction_low (orgs_before g.rules.value t.version.block chain) t)) (find (has_id id) (history chain))
-answer_low g (Satisfied chaincode orgs) chain =
+    (λ t. omega (arith, placed_transaction_low (orgs_before g.rules.value t.version.block chain) t)) (find (has_id id) (history read))
+answer_low g (Satisfied chaincode orgs) chain read =
     let standing = names_among (orgs_behind g.rules.value chain) orgs in
     or_null_low (λ (p : Policy). boolean (is_satisfied p standing)) 7 (λ p. omega arith) (policy_in g.rules.value (plain_after chain) chaincode)
-answer_low g (Call chaincode argument) chain =
+answer_low g (Call chaincode argument) chain read =
     omega (arith, outcome_low (payload_or_refusal (exec_of g.book.value) (call_of chaincode argument) chain))

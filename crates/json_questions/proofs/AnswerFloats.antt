@@ -26,7 +26,7 @@ use Rattle.json_chain.specs.Entries.{entry_json}
 use Rattle.json_chain.specs.Standing.{orgs_before}
 use Rattle.json_chain.specs.Writes.{did_json, write_json, writes_json}
 use Rattle.json_chain.proofs.Floats.{block_plain, genesis_plain, items_plain, payload_plain, placed_transaction_plain, placed_write_plain, standing_plain}
-use Rattle.json_questions.specs.Answers.{answer_json, call_of, has_id, names_among, or_null, outcome_json, part_of, placed_json}
+use Rattle.json_questions.specs.Answers.{answer_from, call_of, has_id, names_among, or_null, outcome_json, part_of, placed_json}
 use Rattle.json_questions.specs.declared.question.Question.{Question}
 use Rattle.json_questions.specs.declared.question.Question.TheVariants.{Setting, Members, Block, Get, Range, History, HistoryPart, Transaction, Satisfied, Call}
 
@@ -57,22 +57,22 @@ writes_plain key (t ∷ ts) =
     joined_plain (write_json key t) (writes_json key ts) (items_plain (did_json t key) (did_plain key t) (option_to_list (write_of t key)))
     (writes_plain key ts)
 
-pub answer_plain : (g : Genesis) (q : Question) (chain : Chain) → has_float (answer_json g q chain) ≡ false
-answer_plain g Setting chain = genesis_plain g
-answer_plain g Members chain = standing_plain g.rules.value (usable_membership g.rules.value.installed.orgs (get (plain_after chain) membership_key))
-answer_plain g (Block n) chain =
+pub answer_plain : (g : Genesis) (q : Question) (chain read : Chain) → has_float (answer_from g q chain read) ≡ false
+answer_plain g Setting chain read = genesis_plain g
+answer_plain g Members chain read = standing_plain g.rules.value (usable_membership g.rules.value.installed.orgs (get (plain_after chain) membership_key))
+answer_plain g (Block n) chain read =
     let orgs = orgs_before g.rules.value n chain in
-    or_null_plain (block_json orgs) (block_plain orgs) (slice_get chain (n - 1))
-answer_plain g (Get key) chain = or_null_plain (λ (e : Bytes × Version). entry_json key e.0 e.1) (λ e. refl) (state_at (history chain) key)
-answer_plain g (Range start end limit) chain =
+    or_null_plain (block_json orgs) (block_plain orgs) (slice_get read (n - 1))
+answer_plain g (Get key) chain read = or_null_plain (λ (e : Bytes × Version). entry_json key e.0 e.1) (λ e. refl) (state_at (history chain) key)
+answer_plain g (Range start end limit) chain read =
     items_plain (λ (e : Bytes × (Bytes × Version)). entry_json e.0 e.1.0 e.1.1) (λ e. refl) (first (state (history chain)) start end limit)
-answer_plain g (History key) chain = writes_plain key (history chain)
-answer_plain g (HistoryPart key from blocks) chain = writes_plain key (part_of from blocks chain)
-answer_plain g (Transaction id) chain =
+answer_plain g (History key) chain read = writes_plain key (history read)
+answer_plain g (HistoryPart key from blocks) chain read = writes_plain key (part_of from blocks read)
+answer_plain g (Transaction id) chain read =
     or_null_plain (placed_json g.rules.value chain) (λ t. placed_transaction_plain (orgs_before g.rules.value t.version.block chain) t)
-    (find (has_id id) (history chain))
-answer_plain g (Satisfied chaincode orgs) chain =
+    (find (has_id id) (history read))
+answer_plain g (Satisfied chaincode orgs) chain read =
     let standing = names_among (orgs_behind g.rules.value chain) orgs in
     or_null_plain (λ (p : Policy). boolean (is_satisfied p standing)) (λ p. refl) (policy_in g.rules.value (plain_after chain) chaincode)
-answer_plain g (Call chaincode argument) chain =
+answer_plain g (Call chaincode argument) chain read =
     outcome_plain (payload_or_refusal (exec_of g.book.value) (call_of chaincode argument) chain)

@@ -6,3 +6,6 @@ mod Refusals
 mod AnswerDepths
 mod AnswerFloats
 mod Absent
+mod Given
+mod Stood
+pub mod FromChain

@@ -1,14 +1,11 @@
 -- The transactions of a chain, place by place.
 use Rattle.std.proofs.Common.{◌≡◌, ℕ, zero, suc, ◌+◌, ◌<◌, ◌≤◌, Bool, true, false, List, [], ◌∷◌, ◌++◌, length, get_or, drop, Some, refl, sym, ap, ◌∙◌, arith}
-use Rattle.std.proofs.lemmas.List.{append_assoc}
+use Rattle.std.proofs.lemmas.List.{append-nil, append_assoc}
 use Rattle.std.proofs.lemmas.List.Concat.{flat_map-append}
 use Rattle.std.specs.List.{find}
-use Rattle.std.specs.declared.sync.Arc.{Arc}
-use Rattle.std.specs.declared.alloc.Global.{Global}
 use Rattle.fab_types.specs.Committed.{Committed}
-use Rattle.world_state.specs.Shared.{blocks_in}
 use Rattle.serde_json.specs.Data.{Data}
-use Rattle.ledger_model.specs.Chain.{Bytes, Envelope, Flag, Placed, placed_from, transactions_from}
+use Rattle.ledger_model.specs.Chain.{Bytes, Chain, Envelope, Flag, Placed, placed_from, transactions_from}
 use Rattle.json_chain.specs.Writes.{placed_at, write_json, writes_json}
 
 -- those from a place on: the one there, and those behind it
@@ -26,18 +23,18 @@ transactions_step block place n (suc i) (x ∷ es) (y ∷ fs) e d at within each
     let next : suc i + 1 ≡ suc (i + 1) = omega arith in
     rw next (transactions_step block (suc place) n i es fs e d (omega arith) (omega arith) (omega arith) is)
 
--- the blocks from a place on, which are shared: the transactions of the one there, and of those behind it
-pub blocks_at : (n i : ℕ) (arcs : List (Arc Committed Global)) (arc : Arc Committed Global) → i < length arcs → arc ≡ get_or arcs i arc →
-    placed_from n (blocks_in (drop i arcs))
-    ≡ transactions_from n 0 arc.value.block.envelopes arc.value.flags ++ placed_from (n + 1) (blocks_in (drop (i + 1) arcs))
-blocks_at n i [] arc within is = absurd (omega arith)
-blocks_at n zero (a ∷ arcs) arc within is =
-    let next : suc n ≡ n + 1 = omega arith in
-    ap (λ (c : Arc Committed Global). transactions_from n 0 c.value.block.envelopes c.value.flags ++ placed_from (suc n) (blocks_in arcs)) (sym is)
-    ∙ ap (λ (m : ℕ). transactions_from n 0 arc.value.block.envelopes arc.value.flags ++ placed_from m (blocks_in arcs)) next
-blocks_at n (suc i) (a ∷ arcs) arc within is =
-    let next : suc i + 1 ≡ suc (i + 1) = omega arith in
-    rw next (blocks_at n i arcs arc (omega arith) is)
+-- blocks and one more behind them
+pub blocks_more : (n : ℕ) (cs : Chain) (c : Committed) →
+    placed_from n (cs ++ c ∷ []) ≡ placed_from n cs ++ transactions_from (n + length cs) 0 c.block.envelopes c.flags
+blocks_more n [] c =
+    let same : n ≡ n + 0 = omega arith in
+    append-nil (transactions_from n 0 c.block.envelopes c.flags) ∙ ap (λ (m : ℕ). transactions_from m 0 c.block.envelopes c.flags) same
+blocks_more n (d ∷ cs) c =
+    let next : suc n + length cs ≡ n + suc (length cs) = omega arith in
+    let here = transactions_from n 0 d.block.envelopes d.flags in
+    ap (λ (ts : List Placed). here ++ ts) (blocks_more (suc n) cs c)
+    ∙ sym (append_assoc here (placed_from (suc n) cs) (transactions_from (suc n + length cs) 0 c.block.envelopes c.flags))
+    ∙ ap (λ (m : ℕ). (here ++ placed_from (suc n) cs) ++ transactions_from m 0 c.block.envelopes c.flags) next
 
 -- what was written up to a place, and what the one there wrote
 pub writes_more : (key : Bytes) (before done : List Data) (t : Placed) (ts us : List Placed) (all : List Data) → us ≡ t ∷ ts →
@@ -46,13 +43,13 @@ writes_more key before done t ts us all here inv now =
     ap (λ (ds : List Data). ds ++ writes_json key ts) now ∙ append_assoc before (write_json key t) (writes_json key ts)
     ∙ ap (λ (vs : List Placed). before ++ writes_json key vs) (sym here) ∙ inv
 
--- the same of a block
-pub writes_block : (key : Bytes) (before done : List Data) (ts us vs : List Placed) (all : List Data) → us ≡ ts ++ vs →
-    before ++ writes_json key us ≡ all → done ≡ before ++ writes_json key ts → done ++ writes_json key vs ≡ all
-writes_block key before done ts us vs all here inv now =
-    ap (λ (ds : List Data). ds ++ writes_json key vs) now ∙ append_assoc before (writes_json key ts) (writes_json key vs)
-    ∙ ap (λ (ds : List Data). before ++ ds) (sym (flat_map-append (write_json key) ts vs)) ∙ ap (λ (ws : List Placed). before ++ writes_json key ws) (sym here)
-    ∙ inv
+-- what was written in blocks, and in one more behind them
+pub writes_behind : (key : Bytes) (n : ℕ) (cs : Chain) (c : Committed) (before now : List Data) → before ≡ writes_json key (placed_from n cs) →
+    now ≡ before ++ writes_json key (transactions_from (n + length cs) 0 c.block.envelopes c.flags) → now ≡ writes_json key (placed_from n (cs ++ c ∷ []))
+writes_behind key n cs c before now inv more =
+    let ts = transactions_from (n + length cs) 0 c.block.envelopes c.flags in
+    more ∙ ap (λ (ds : List Data). ds ++ writes_json key ts) inv ∙ sym (flat_map-append (write_json key) (placed_from n cs) ts)
+    ∙ ap (λ (us : List Placed). writes_json key us) (sym (blocks_more n cs c))
 
 -- ---- the first that passes a test
 

@@ -40,7 +40,7 @@ fn is_put(
     flags.push(Flag::Valid)?;
     flags.push(second)?;
     let ids = tx_ids(alloc, block)?;
-    state.extend(alloc, block, Judged { flags, ids })?;
+    state.extend(alloc, block, &Judged { flags, ids })?;
     Ok(true)
 }
 

@@ -1,4 +1,5 @@
 pub mod Numerals
 pub mod Rights
 pub mod Known
+pub mod Hashes
 pub mod Sharing

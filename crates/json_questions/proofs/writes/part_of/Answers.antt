@@ -1,32 +1,32 @@
-use Rattle.std.proofs.Common.{◌≡◌, ◌-◌, ℕ, List, IfOk, length, take, drop, sym, subst, ap, ◌∙◌}
-use Rattle.std.proofs.lemmas.List.{take_min, take_rest, drop_min, take-map, drop-map}
-use Rattle.std.specs.declared.sync.Arc.{Arc}
-use Rattle.std.specs.declared.alloc.Global.{Global}
+use Rattle.std.proofs.Common.{◌≡◌, ◌-◌, ◌∙◌, ℕ, suc, length, sym, ap, subst, arith}
+use Rattle.std.specs.Prelude.{min}
+use Rattle.std.proofs.lemmas.Result.{IfOk-weaker}
 use Rattle.serde_json.specs.Data.{array}
-use Rattle.serde_json.specs.View.{items_of, view}
-use Rattle.fab_types.specs.Committed.{Committed}
-use Rattle.world_state.specs.Shared.{blocks_in}
-use Rattle.ledger_model.specs.Chain.{Chain, Placed, placed_from}
+use Rattle.serde_json.specs.View.{items_of}
+use Rattle.ledger_model.specs.Chain.{Chain, placed_from}
 use Rattle.json_chain.specs.Writes.{writes_json}
-use Rattle.json_questions.specs.Answers.{part_of}
+use Rattle.json_questions.specs.Answers.{AreGiven, part_of}
+use Rattle.json_questions.proofs.Given.{given_back, over, part_given}
 use Rattle.json_questions.proofs.writes.part_of.Goals as goal
 
-pub returns : goal.returns
-returns c =
+pub returns-clause-answered : goal.returns-clause-answered
+returns-clause-answered g c =
+    let keeps = g.B.Blocks.keeps in
+    let chain = g.B.Blocks.chain c.args.blocks.now in
+    let key = c.args.key.now in
     let most = c.args.most in
-    let chain = c.args.snapshot.now in
     let from = c.get-from.result in
-    let arcs = c.blocks-blocks.result.now in
-    let behind = take (length arcs - c.min.result) (drop c.min.result arcs) in
-    let cut : behind ≡ drop (from - 1) arcs =
-    take_rest arcs c.min.result ∙ ap (λ (n : ℕ). drop n arcs) c.min.ensures ∙ drop_min (from - 1) arcs in
-    let shared : blocks_in (take c.min-2.result behind) ≡ blocks_in (take most (drop (from - 1) arcs)) =
-    ap (λ (n : ℕ). blocks_in (take n behind)) c.min-2.ensures
-    ∙ ap (λ (xs : List (Arc Committed Global)). blocks_in xs) (take_min most behind ∙ ap (λ (xs : List (Arc Committed Global)). take most xs) cut) in
-    let blocks : blocks_in (take c.min-2.result behind) ≡ take most (drop (from - 1) chain) =
-    shared ∙ sym (take-map (λ (a : Arc Committed Global). a.value) most (drop (from - 1) arcs))
-    ∙ ap (λ (cs : Chain). take most cs) (sym (drop-map (λ (a : Arc Committed Global). a.value) (from - 1) arcs))
-    ∙ ap (λ (cs : Chain). take most (drop (from - 1) cs)) c.blocks-blocks.ensures.value in
-    let same : placed_from from (blocks_in (take c.min-2.result behind)) ≡ part_of c.args.from most chain =
-    ap (λ (cs : Chain). placed_from from cs) blocks ∙ ap (λ (n : ℕ). part_of n most chain) c.get-from.ensures.value in
-    subst (λ (ts : List Placed). IfOk c.writes_in.result (λ v. view v ≡ array (items_of (writes_json c.args.key.now ts)))) same c.writes_in.ensures
+    let kept = c.kept.ensures.kept c.requires in
+    let tall : c.height.result ≡ length chain = c.height.ensures.value ∙ kept.state.height ∙ ap (λ (cs : Chain). length cs) c.kept.ensures.chain in
+    let next : from ≡ suc (from - 1) = omega (arith, c.get-from.ensures.limits.0, c.get-from.ensures.value) in
+    let behind : c.saturating_sub-behind.result ≡ length chain - (from - 1) = omega (arith, c.saturating_sub-behind.ensures, tall, next) in
+    IfOk-weaker c.writes_in.result _ _
+    (λ v h.
+    let cs = h.0 in
+    let given = subst (λ (n : ℕ). AreGiven keeps chain n cs) next h.1 in
+    let size : length cs ≡ min most (length chain - (from - 1)) = h.2 ∙ c.min-count.ensures ∙ ap (λ (n : ℕ). min most n) behind in
+    let part = part_given (from - 1) most cs chain size in
+    let read = over (from - 1) cs chain in
+    let shown = h.3 ∙ ap (λ (ds : Chain). array (items_of (writes_json key (placed_from from ds)))) (sym part)
+    ∙ ap (λ (n : ℕ). array (items_of (writes_json key (part_of n most read)))) c.get-from.ensures.value in
+    (read, given_back keeps chain (from - 1) cs given, shown)) c.writes_in.ensures.answered

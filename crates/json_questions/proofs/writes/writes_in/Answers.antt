@@ -1,24 +1,28 @@
-use Rattle.std.proofs.Common.{◌≡◌, ◌+◌, ◌++◌, ℕ, drop, map, ap, ◌∙◌, arith}
+use Rattle.std.proofs.Common.{◌≡◌, ◌+◌, ◌++◌, ◌∙◌, ℕ, [], ◌∷◌, length, map, sym, ap, subst}
+use Rattle.std.proofs.lemmas.List.{length_push}
 use Rattle.serde_json.specs.View.{view}
-use Rattle.fab_types.specs.Committed.{Committed}
-use Rattle.world_state.specs.Shared.{blocks_in}
-use Rattle.ledger_model.specs.Chain.{placed_from, transactions_from}
+use Rattle.ledger_model.specs.Chain.{transactions_from}
+use Rattle.store_devices.specs.Blocks.{IsGiven}
 use Rattle.json_chain.specs.Writes.{writes_json}
-use Rattle.json_questions.proofs.Placing.{blocks_at, writes_block}
+use Rattle.json_questions.proofs.Given.{one_more}
+use Rattle.json_questions.proofs.Placing.{writes_behind}
 use Rattle.json_questions.proofs.writes.writes_in.Goals as goal
 
 pub loop-index-preserved : goal.loop-index-preserved
-loop-index-preserved c =
-    let k = c.loop-index.index in
-    let n = c.args.first + k in
+loop-index-preserved g c =
+    let keeps = g.B.Blocks.keeps in
+    let chain = g.B.Blocks.chain c.args.blocks.now in
     let key = c.args.key.now in
+    let first = c.args.first in
+    let inv = c.loop-index.invariant in
+    let cs = inv.0 in
+    let read = c.in_ok-push_read.ensures.pushed in
+    let block = read.0 in
     let before = map view c.loop-index.values.items in
-    let now = c.in_ok-push_block.ensures
-    ∙ ap (λ (b : Committed). before ++ writes_json key (transactions_from n 0 b.block.envelopes b.flags)) c.deref.ensures in
-    let xs = c.args.blocks.now in
-    let arc = c.index-blocks-index.result in
-    let here = transactions_from n 0 arc.value.block.envelopes arc.value.flags in
-    let rest = blocks_in (drop (k + 1) xs) in
-    let next : n + 1 ≡ c.args.first + (k + 1) = omega arith in
-    let at = blocks_at n k xs arc (omega (arith, c.loop-index-test.true)) c.index-blocks-index.is ∙ ap (λ (m : ℕ). here ++ placed_from m rest) next in
-    writes_block key before _ here _ (placed_from (c.args.first + (k + 1)) rest) _ at c.loop-index.invariant now
+    let place : first + c.loop-index.index ≡ first + length cs = ap (λ (n : ℕ). first + n) (sym inv.2) in
+    let now = read.2 ∙ ap (λ (n : ℕ). before ++ writes_json key (transactions_from n 0 block.block.envelopes block.flags)) place in (
+      cs ++ block ∷ [],
+      one_more keeps chain first cs block inv.1 (subst (λ (n : ℕ). IsGiven keeps chain n block) place read.1),
+      length_push cs block ∙ ap (λ (n : ℕ). n + 1) inv.2,
+      writes_behind key first cs block before _ inv.3 now,
+    )

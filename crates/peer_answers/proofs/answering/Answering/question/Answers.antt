@@ -6,6 +6,6 @@ other : NoForm ≡ Memory → ⊥
 other e = cc
 
 pub returns-in-Err-NoForm : goal.returns-in-Err-NoForm
-returns-in-Err-NoForm c =
+returns-in-Err-NoForm g c =
     let none = rw c.in-Err-NoForm.field-0-is at c.in-Err-NoForm.ensures.refused in
     inr ((λ q spells. none other q spells), refl)
