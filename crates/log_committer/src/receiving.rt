@@ -61,12 +61,12 @@ impl Committer {
     ///
     /// A block whose number is not above the height is compared with the chain's block of that
     /// number: it is known where their headers have the same hash, and else refused (602). Any
-    /// other block is committed, or refused: where the chain is full
-    /// (604), where the block has not the next number (601), names another hash than that of the
-    /// last header (602) or says another hash of its data (603), and for want of memory (9), behind
-    /// the first three tests alone. Only a block that is committed changes the chain; behind want of
-    /// memory nothing is kept of it any more. Its tags are checked by workers at once: the answer is
-    /// the same for every number of them.
+    /// other block is committed, or refused: where the chain is full (604), where the block has not
+    /// the next number (601), names another hash than that of the last header (602) or says another
+    /// hash of its data (603), and for want of memory (9), behind the first three tests alone. Only
+    /// a block that is committed changes the chain; behind want of memory nothing is kept of it any
+    /// more. Its tags are checked by workers at once: the answer is the same for every number of
+    /// them.
     pub fn receive<T: Threads + Sync>(
         &mut self,
         workers: &Workers<'_, T>,

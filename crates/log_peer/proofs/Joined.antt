@@ -5,7 +5,6 @@ use Rattle.fab_types.specs.declared.block.Block.{Block}
 use Rattle.ledger_model.specs.Chain.{Chain, Committed}
 use Rattle.ledger_model.specs.Judged.{BlockRule}
 use Rattle.orderer.specs.Making.{number_in}
-use Rattle.log_orderer.specs.declared.batch.LogBatch.{LogBatch}
 use Rattle.log_committer.specs.Committing.{Receives, ReceivesAll, block_at}
 use Rattle.log_committer.specs.declared.receiving.Received.{Received}
 use Rattle.log_committer.specs.declared.receiving.Received.TheVariants as received

@@ -49,8 +49,8 @@ refused_same rule old new block (Forked number) h = h.2
 refused_same rule old new block (Unfit cause) h = h.2
 
 -- a block that joined is the next one, with flags
-pub joined_next : (rule : BlockRule) (old new : Chain) (block : Block) (c : Committed) → Receives rule old block (Ok received.Committed) new → new ≡ old ++ c ∷ [] →
-    (c.block ≡ block) × (block.header.number ≡ suc (length old))
+pub joined_next : (rule : BlockRule) (old new : Chain) (block : Block) (c : Committed) → Receives rule old block (Ok received.Committed) new →
+    new ≡ old ++ c ∷ [] → (c.block ≡ block) × (block.header.number ≡ suc (length old))
 joined_next rule old new block c h joined =
     let next = next_by rule old block in
     let ends : c ∷ [] ≡ next ∷ [] = append_cancel_left old (c ∷ []) (next ∷ []) (sym joined ∙ h.1) in

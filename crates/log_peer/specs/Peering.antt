@@ -1,6 +1,6 @@
 -- A peer of a log: what is told of a line, and why a line is not read.
 use Rattle.std.specs.Prelude.{◌≡◌, ℕ, List, [], Option, Some, None, IfSome, IsSome}
-use Rattle.std.specs.List.{flat_map, AllZip}
+use Rattle.std.specs.List.{flat_map, AllByRecursion, AllZip}
 use Rattle.std.specs.Option.{option_to_list}
 use Rattle.fab_types.specs.declared.block.Block.{Block}
 use Rattle.endorsement_policy.specs.Endorsed.{Listed}
@@ -8,6 +8,7 @@ use Rattle.ledger_model.specs.Chain.{Bytes, Chain, Committed}
 use Rattle.ledger_model.specs.Judged.{BlockRule}
 use Rattle.ledger_setting.specs.Limits.{limits_of}
 use Rattle.ledger_setting.specs.declared.genesis.Genesis.{Genesis}
+use Rattle.orderer.specs.Making.{number_in}
 use Rattle.orderer.specs.Ordering.{Ordering}
 use Rattle.log_orderer.specs.Log.{Reads}
 use Rattle.log_orderer.specs.Reported.{answer_of}
@@ -45,6 +46,10 @@ AreJoined (Some received.Committed) joined = IsSome joined
 abbrev pub IsBatchOf : LogBatch → PeerBatch → Type 0
 IsBatchOf batch told =
     (told.report ≡ batch.report) × (told.aborted ≡ batch.aborted) × IsOfBlock batch.block told.received × AreJoined told.received told.joined
+
+-- each batch is reported with the number of its block
+abbrev pub HaveNumbers : List LogBatch → Type 0
+HaveNumbers batches = AllByRecursion (λ batch. batch.report.block ≡ number_in batch.block) batches
 
 -- a block that joined the chain stands there at the number
 abbrev pub IsJoinedAt : Chain → Option ℕ → Option Committed → Type 0

@@ -1,6 +1,6 @@
 //! The records of a store as it is opened.
 
-ghost use Rattle.std.specs.Prelude.{◌≡◌, ◌≤◌, suc, ℕ, List, [], ◌∷◌, ◌++◌, IfErr, IfOk, MatchResult, OnOk, length};
+ghost use Rattle.std.specs.Prelude.{◌≡◌, suc, ℕ, List, [], ◌∷◌, ◌++◌, IfErr, IfOk, MatchResult, OnOk, length};
 ghost use Rattle.ledger_model.specs.Chain.{Chain};
 ghost use Rattle.ledger_setting.specs.Rule.{table_of};
 ghost use Rattle.block_store.specs.Loading.{Holds, IsBehind};
@@ -8,7 +8,7 @@ ghost use Rattle.block_store.specs.Record.{IsRecord};
 ghost use Rattle.block_store.specs.Store.{AreRecords};
 ghost use Rattle.store_devices.specs.Places.{ends_of};
 ghost use Rattle.store_replay.specs.Lawful.{AreLawful, IsRecommitRefused};
-ghost use Rattle.kept_state.specs.Keeping.{IsKept, chain_of};
+ghost use Rattle.kept_state.specs.Keeping.{chain_of};
 ghost use Rattle.log_peer.specs.Opening.{AreOpened, IsChainOf};
 ghost use Rattle.log_peer.specs.Storing.{IsOpened, IsOpenRefused, cut_of};
 

@@ -18,7 +18,7 @@ ghost use Rattle.log_peer.specs.Holding.{Grows, HoldsRecords, IsUntouched, Keeps
 ghost use Rattle.log_peer.specs.Storing.{IsBlamed, IsOpened, IsOpenRefused, IsStored};
 ghost use Rattle.log_peer.specs.Storing.{file_of as chain_file, rules_of as chain_rules, stored_chain};
 ghost use Rattle.log_peer.specs.Peering.{AreJoined, AreNotReceived, IsBatchOf, IsJoinedAt, IsJoinedIn, IsNotRead};
-ghost use Rattle.log_peer.specs.Peering.{IsOfBlock, IsPeer, IsReportOf, batches_in};
+ghost use Rattle.log_peer.specs.Peering.{HaveNumbers, IsOfBlock, IsPeer, IsReportOf, batches_in};
 ghost use Rattle.log_peer.specs.Peering.{file_of, fresh, held_by, rules_of, told_by, told_of};
 
 use crate::refusal::{StoreRefusal, Unopened};
@@ -234,7 +234,7 @@ fn receive_each<D: StoreFile, T: Threads + Sync>(
     ensures received { IfOk result
         (λ told. ReceivesAll (table_of (chain_rules chain.old)) (stored_chain chain.old)
         (blocks_of batches.items) (told_of told.items) (stored_chain chain.new)) }
-    ensures joined { AllByRecursion (λ batch. batch.report.block ≡ number_in batch.block) batches.items →
+    ensures joined { HaveNumbers batches.items →
         IfOk result
         (λ told. AllByRecursion (IsJoinedIn (stored_chain chain.new)) told.items) }
     ensures refused { IfErr result

@@ -1,6 +1,6 @@
 //! A chain and the file that it is stored in.
 
-ghost use Rattle.std.specs.Prelude.{◌≡◌, suc, true, [], ◌∷◌, ◌++◌, IfErr, IfOk, IfSome, MatchResult, Ok, OnErr, OnOk, length};
+ghost use Rattle.std.specs.Prelude.{◌≡◌, suc, [], ◌∷◌, ◌++◌, IfErr, IfOk, IfSome, MatchResult, Ok, OnErr, OnOk, length};
 ghost use Rattle.std.specs.Option.{option_to_list};
 ghost use Rattle.std.specs.Io.KnownBytes.{Appends};
 ghost use Rattle.std.specs.Arc.{arc_value};

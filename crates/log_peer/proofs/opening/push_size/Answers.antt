@@ -1,4 +1,4 @@
-use Rattle.std.proofs.Common.{rules, ◌≡◌, ◌≤◌, true, false, length, arith}
+use Rattle.std.proofs.Common.{rules, ◌≡◌, true, false, arith}
 use Rattle.std.specs.Option.{is_some}
 use Rattle.store_devices.specs.Places.{span_at}
 use Rattle.log_peer.proofs.Opened.{are_few, are_many, ends_more, no_room}

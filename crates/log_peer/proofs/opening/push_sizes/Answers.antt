@@ -1,4 +1,4 @@
-use Rattle.std.proofs.Common.{◌∙◌, [], sym, ap, append-nil}
+use Rattle.std.proofs.Common.{◌∙◌}
 use Rattle.log_peer.proofs.Opened.{ends_all, ends_next, ends_none}
 use Rattle.log_peer.proofs.opening.push_sizes.Goals as goal
 

@@ -3,7 +3,6 @@ use Rattle.endorsement_policy.specs.Listed.{Listed}
 use Rattle.ledger_model.specs.Chain.{Chain}
 use Rattle.ledger_setting.specs.Rule.{table_of}
 use Rattle.block_store.specs.Loading.{IsBehind}
-use Rattle.block_store.specs.Store.{AreRecords}
 use Rattle.kept_state.specs.Keeping.{chain_of}
 use Rattle.store_replay.specs.Lawful.{AreLawful, IsRecommitRefused}
 use Rattle.log_peer.specs.Opening.{IsChainOf}

@@ -1,5 +1,4 @@
 use Rattle.std.proofs.Common.{rules, ◌≡◌, [], ◌∷◌, ◌++◌, List, length, ap, subst, sym, ◌∙◌, append_assoc, arith}
-use Rattle.std.specs.List.{AllByRecursion}
 use Rattle.std.specs.Option.{option_to_list}
 use Rattle.std.specs.Vec.Iter.{into_iter_items}
 use Rattle.endorsement_policy.specs.Endorsed.{Listed}
@@ -9,7 +8,7 @@ use Rattle.orderer.specs.Making.{number_in}
 use Rattle.log_orderer.specs.Handed.{blocks_of}
 use Rattle.log_orderer.specs.declared.batch.LogBatch.{LogBatch}
 use Rattle.log_committer.specs.Committing.{ReceivesAll}
-use Rattle.log_peer.specs.Peering.{AreNotReceived, IsBatchOf, told_of}
+use Rattle.log_peer.specs.Peering.{AreNotReceived, HaveNumbers, IsBatchOf, told_of}
 use Rattle.log_peer.specs.Storing.{rules_of, stored_chain}
 use Rattle.log_peer.proofs.Joined.{all_at, joined_more}
 use Rattle.log_peer.proofs.Keeping.{grows_on}
@@ -63,7 +62,7 @@ batches-preserved g c =
       fits = omega (arith, ap length split, counted, c.push.ensures.capacity, kept.fits);
       batches = rw pushed (zip_more IsBatchOf front told batch more kept.batches c.in_ok-batch.ensures.batch);
       joined = λ own.
-          let all = subst (AllByRecursion (λ b. b.report.block ≡ number_in b.block)) parts own in
+          let all = subst HaveNumbers parts own in
           let is = c.in_ok-batch.ensures.joined (all_at (λ b. b.report.block ≡ number_in b.block) front rest batch all) in
           rw pushed (joined_more rule between new (option_to_list batch.block) (option_to_list more.received) told more here (kept.joined own) is);
       received = rw pushed (batch_more rule old between new front batch told more kept.received here);

@@ -1,5 +1,4 @@
-use Rattle.std.proofs.Common.{rules, ◌≡◌, [], ◌∷◌, ◌++◌, Ok, subst, sym}
-use Rattle.std.specs.Option.{option_to_list}
+use Rattle.std.proofs.Common.{rules, ◌≡◌, [], ◌∷◌, ◌++◌, Ok}
 use Rattle.ledger_model.specs.Judged.{BlockRule}
 use Rattle.ledger_setting.specs.Rule.{table_of}
 use Rattle.log_committer.specs.Committing.{Receives}
