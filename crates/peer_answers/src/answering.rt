@@ -1,13 +1,11 @@
 //! How a peer answers a line that asks for something, by its chain.
 
 ghost use Rattle.std.specs.Prelude.{◌≡◌, Ok, Some, IfOk};
-ghost use Rattle.kept_state.specs.Asking.{hash_in};
 ghost use Rattle.kept_state.specs.Keeping.{IsKept, chain_of};
-ghost use Rattle.ledger_model.specs.Chain.{history};
-ghost use Rattle.ledger_model.specs.State.{state};
+ghost use Rattle.store_devices.specs.Placed.{IsOfMemory};
 ghost use Rattle.world_state.specs.Writing.{as_state};
-ghost use Rattle.peer_answers.specs.Answering.{IsAnswered, IsReply, IsSighted, Says, said_words};
-ghost use Rattle.peer_answers.specs.Answering.{seen_at};
+ghost use Rattle.peer_answers.specs.Answering.{IsAnswered, IsLost, IsReply, IsSighted, Says};
+ghost use Rattle.peer_answers.specs.Answering.{said_words, seen_at};
 ghost use Rattle.peer_answers.specs.Calls.{IsCalled, called_words, endorsed_words, endorses_by};
 ghost use Rattle.peer_answers.specs.Calls.{is_passed_over, standing_words};
 ghost use Rattle.peer_answers.specs.Placing.{orgs_in, place_among};
@@ -154,8 +152,17 @@ fn reply_to<B: Blocks>(
 {
     match answer_text(alloc, genesis, blocks, question) {
         Ok(text) => Ok(Answer::Json(text)),
-        Err(BlockFault::Memory) => Err(AllocError),
-        Err(fault) => Ok(Answer::Lost(fault)),
+        Err(fault) => lost_answer(fault),
+    }
+}
+
+/// The answer where a block is not read back.
+fn lost_answer(fault: BlockFault) -> Result<Answer, AllocError>
+    ensures { IfOk result (λ a. (¬ IsOfMemory fault) × IsLost (answer_text a)) }
+{
+    match fault {
+        BlockFault::Memory => Err(AllocError),
+        BlockFault::Device | BlockFault::Damaged(_) => Ok(Answer::Lost(fault)),
     }
 }
 

@@ -15,5 +15,6 @@ returns-in-Some-Ask g c =
     let utf8 : IsUtf8 l = search rules in
     let says : Some (Asks asked.request asked.tag.now asked.words.now) ≡ said_in (utf8_lossy l) =
     rw c.in-Some-Ask.field-0-is at c.in-Some-Ask.ensures ∙ ap said_in (text ∙ sym (utf8_lossy-IsUtf8 l utf8)) in
-    rw c.ok-in-Some-Ask.ensures.value (answer_is (peer_of g.B.Blocks.keeps c.args.answering.now) (g.B.Blocks.chain c.args.blocks.now) l asked.request asked.tag.now asked.words.now c.answer.result says
-    c.answer.ensures)
+    let peer = peer_of g.B.Blocks.keeps c.args.answering.now in
+    let chain = g.B.Blocks.chain c.args.blocks.now in
+    rw c.ok-in-Some-Ask.ensures.value (answer_is peer chain l asked.request asked.tag.now asked.words.now c.answer.result says c.answer.ensures)
