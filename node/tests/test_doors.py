@@ -322,6 +322,17 @@ class Doors(unittest.TestCase):
             self.assertIn(says, self.get(path)[1])
         self.assertLess(self.memory(), MOST_MEMORY)
 
+    def test_so_many_readers_of_the_page_are_answered_at_a_time(self):
+        """So that the node's loop has few of them in a turn."""
+        self.come(self.is_quiet)
+        files = self.files()
+        for _ in range(150):
+            self.connect().sendall(f"GET {WAITS} HTTP/1.1\r\nHost: 127.0.0.1\r\n\r\n".encode())
+        self.come(lambda: self.files() >= files + 45)
+        self.come(self.is_quiet)
+        self.assertLess(self.files(), files + 65)
+        self.assertEqual(self.get("/metrics")[0], 200)
+
     # ------------------------------------------------ memory
 
     def flood(self, at: socket.socket, begin: bytes, more: bytes, size: int = 20 << 20) -> None:
