@@ -10,3 +10,4 @@ pub mod OneEntry
 pub mod OneLine
 pub mod AtHand
 pub mod Rounds
+pub mod Sharing

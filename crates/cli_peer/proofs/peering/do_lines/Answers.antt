@@ -1,3 +1,5 @@
+use denote.Param.{param}
+use denote.Param.Send.{IsSync}
 use Rattle.std.proofs.Common.{◌∙◌, ◌+◌, ℕ, List, [], inl, Ok, Err, refl, subst, sym}
 use Rattle.std.proofs.lemmas.Result.{err_from_is_err_and}
 use Rattle.std.specs.Global.{Vec}
@@ -11,6 +13,7 @@ use Rattle.cli_peer.specs.Running.{reached}
 use Rattle.peer_answers.specs.Setting.{peer_of}
 use Rattle.cli_peer.proofs.Filters.{HasDone, all_done, done_kept, line_ended, line_told, lines_told, none_done, one_done, tells_then}
 use Rattle.cli_peer.proofs.Keeping.{Starts, all_lead, line_starts, starts_same, starts_then, stores_none, stores_read, stores_then}
+use Rattle.cli_peer.proofs.Sharing.{sync_stored}
 use Rattle.cli_peer.proofs.peering.do_lines.Goals as goal
 
 pub loop-number-init : goal.loop-number-init
@@ -174,3 +177,10 @@ pub returns-clause-stores : goal.returns-clause-stores
 returns-clause-stores g c =
     stores_read g.D.Write.contents {A = Unit {0}} c.args.reader.now.peer c.loop-number.reader.peer (Err failure.File) c.loop-number.invariant.stores.0
     c.loop-number.invariant.stores.1
+
+-- ---- workers share the chain of its store
+
+pub next-requires-sync-B : goal.next-requires-sync-B
+next-requires-sync-B g c κs within =
+    let sync_file : IsSync (param 2 g.row.D) = record { shared = c.type_bounds.sync-D.shared } in
+    record { shared = (sync_stored (param 2 g.row.D) sync_file).shared }
