@@ -63,6 +63,8 @@ class World:
     def __init__(self, folder: pathlib.Path, program: str, block: int = 10, wait: float = 0.25, has_shared_keys: bool = False):
         self.folder, self.program, self.block, self.wait, self.has_shared_keys = folder, program, block, wait, has_shared_keys
         net = f"127.{20 + secrets.randbelow(200)}.{1 + secrets.randbelow(250)}"
+        # What the proxies run by.
+        self.proxy = NODE / "haproxy.cfg"
         self.address = {place: f"{net}.{number}" for number, place in enumerate(PLACES, 1)}
         # Whose node reaches etcd by a cable that can be cut, and where that begins.
         self.cabled, self.cable = "", f"{net}.{len(PLACES) + 1}"
@@ -297,7 +299,7 @@ class World:
         """Starts a place's proxy, by what is laid down now, and its node."""
         if f"proxy-{place}" in self.processes:
             self.kill(f"proxy-{place}")
-        self.start(f"proxy-{place}", "/usr/sbin/haproxy", "-db", "-f", NODE / "haproxy.cfg",
+        self.start(f"proxy-{place}", "/usr/sbin/haproxy", "-db", "-f", self.proxy,
                    env={"LISTEN": f"{self.address[place]}:{PORT}", "PAGE": f"{self.address[place]}:{PAGE}",
                         "SETTINGS": str(self.room(place)), "SOCKETS": str(self.sockets(place))})
         self.start(f"node-{place}", NODE / "bin" / "regtuma-node", self.room(place) / "node.toml")

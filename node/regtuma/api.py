@@ -377,8 +377,8 @@ class Api:
         return stream
 
     async def choose(self, line: str, chaincode: str | None) -> str:
-        """A block's line, with the transactions of one chaincode alone where that is asked for. That takes the loop some time: it is done for
-        one reader at a time, and as long as it took, the loop is for others."""
+        """A block's line, with the transactions of one chaincode alone where that is asked for. That takes the loop some time: it is done
+        for one reader at a time, and as long as it took, the loop is for others."""
         if chaincode is None:
             return line
         async with self.choosing:

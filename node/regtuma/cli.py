@@ -55,8 +55,8 @@ def text_of(hex_: str) -> str:
 
 
 def say(words: argparse.Namespace, said: object, text: str) -> None:
-    """Prints JSON, where that is asked for, or the same in words."""
-    print(json.dumps(said) if words.json else text, flush=True)
+    """Prints JSON, where that is asked for, or the same in words, which may be those of a node that lies."""
+    print(json.dumps(said) if words.json else "\n".join(map(shown, text.split("\n"))), flush=True)
 
 
 def outcome(said: Object) -> str:
@@ -140,7 +140,7 @@ def block(ledger: Client, words: argparse.Namespace) -> int:
 
 
 def height(ledger: Client, words: argparse.Namespace) -> int:
-    print(ledger.height())
+    print(shown(str(ledger.height())))
     return DONE
 
 

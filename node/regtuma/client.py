@@ -152,7 +152,7 @@ class Client:
     def outcome(self, call: Object, until: float = 0.0) -> Object:
         """What becomes of a call or a change, whatever that is: an answer of the API with `valid`, `refused` or neither; with `pending`
         where its time is up, by the clock of `time.monotonic`, by default after the client's `seconds`. Where nodes could do nothing up to
-        the end (503), or one refuses behind one that gave no answer, it ends by `NoAnswer`: the call may have been put before."""
+        the end (503), or one refuses behind one that gave no answer, it ends by `NoAnswer`: a call may have been put before."""
         until, may_be_put = until or time.monotonic() + self.seconds, False
         try:
             while True:

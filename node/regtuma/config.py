@@ -150,8 +150,12 @@ class Config:
         return tls
 
     def _trusting(self, purpose: ssl.Purpose, files: Iterable[str]) -> ssl.SSLContext:
+        """By TLS 1.3 and one curve: a server could choose a group by which a handshake takes the loop a second."""
         certificates = "\n".join(pathlib.Path(it).read_text(encoding="ascii") for it in files)
-        return ssl.create_default_context(purpose, cadata=certificates)
+        tls = ssl.create_default_context(purpose, cadata=certificates)
+        tls.minimum_version = ssl.TLSVersion.TLSv1_3
+        tls.set_ecdh_curve("prime256v1")
+        return tls
 
 
 class OfNode(ssl.SSLObject):

@@ -32,10 +32,11 @@ class NotDone(Exception):
 
 
 def asked(config: Config, *words: str) -> list[str]:
-    """The lines that the program prints."""
+    """The lines that the program prints, of which there may be gigabytes: they are kept once."""
     command = [config.ledger.program, *words]
-    ran = subprocess.run(command, stdin=subprocess.DEVNULL, stdout=subprocess.PIPE, text=True)
-    lines = ran.stdout.splitlines()
+    with subprocess.Popen(command, stdin=subprocess.DEVNULL, stdout=subprocess.PIPE, text=True) as ran:
+        assert ran.stdout
+        lines = [it.rstrip("\n") for it in ran.stdout]
     if ran.returncode:
         raise NotDone(f"`{' '.join(command)}` answers: {numbers.explained(lines[-1]) if lines else f'status {ran.returncode}'}")
     return lines

@@ -74,6 +74,14 @@ class CommandLine(unittest.TestCase):
         status, said = told("watch", "--json", blocks=blocks)
         self.assertEqual([json.loads(it) for it in said.splitlines()], [{"block": 4, "place": place, **tx} for place, tx in enumerate(TXS)])
 
+    def test_nothing_that_a_node_answers_speaks_to_a_terminal(self):
+        spoken = "\x1b]0;x\x07"
+        members = {"serial": spoken, "policy": spoken, "members": [{"name": spoken}]}
+        for words, said in [(["health"], {"health": {**WELL, "organisation": spoken}}), (["members"], {"members": members}), (["height"], {"height": spoken}),
+                            (["status", "ab"], {"status": {"id": spoken, "block": spoken, "place": spoken, "flag": 0, "valid": True, "result": ""}})]:
+            with self.subTest(words=words):
+                self.assertRegex(told(*words, **said)[1], r"^[^\x00-\x09\x0b-\x1f]+$")
+
     def test_health_tells_what_is_wrong_and_what_it_warns_of(self):
         self.assertEqual(told("health", health=WELL), (0, "Maker has 4 blocks\nwarning: the chain has 9 blocks left\\x1b\n"))
         wrong = {**WELL, "ok": False, "wrong": ["forked"], "warnings": []}

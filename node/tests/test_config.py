@@ -1,6 +1,7 @@
 """Each mistake of a configuration is told in one sentence, with its place."""
 import json
 import pathlib
+import ssl
 import subprocess
 import unittest
 from unittest import mock
@@ -76,6 +77,20 @@ LOCAL_MISTAKES = [
     ('"http://127.0.0.1:7052"', '"https://127.0.0.1:7052"', "[nodes] Carrier has to be a URL on the loopback with a port"),
     ('Carrier =', 'Maker =', "[nodes] Maker is this organisation itself"),
 ]
+
+
+class Handshakes(unittest.TestCase):
+    def test_a_server_chooses_neither_version_nor_group(self):
+        """By a group of its own of 10,000 bits a handshake takes the loop a second, and by the largest one of TLS 1.3 a seventh of it."""
+        folder = support.Folder()
+        self.addCleanup(folder.close)
+        made, said = folder.config(), ssl.MemoryBIO()
+        tls = made._trusting(ssl.Purpose.SERVER_AUTH, [made.authorities["Maker"]])
+        with self.assertRaises(ssl.SSLWantReadError):
+            tls.wrap_bio(ssl.MemoryBIO(), said, server_hostname="127.0.0.1").do_handshake()
+        hello = said.read()
+        for extension in ("002b 0003 02 0304", "000a 0004 0002 0017"):
+            self.assertIn(bytes.fromhex(extension), hello)
 
 
 class Mistakes(unittest.TestCase):

@@ -213,6 +213,12 @@ class Doors(unittest.TestCase):
                 self.assertEqual(at.recv(100), b"")
                 raise OSError
 
+    def test_a_stranger_chooses_no_long_handshake(self):
+        for group, comes_in in (("X25519", True), ("P-256", True), ("ffdhe2048", False), ("ffdhe8192", False)):
+            words = ["openssl", "s_client", "-connect", f"127.0.0.1:{self.port}", "-tls1_3", "-groups", group]
+            said = subprocess.run(words, stdin=subprocess.DEVNULL, stdout=subprocess.PIPE, stderr=subprocess.STDOUT, text=True).stdout
+            self.assertEqual("New, TLSv1.3" in said, comes_in, f"{group} {said}")
+
     def test_no_session_is_taken_up_again(self):
         at = self.connect("alice")
         self.answered(at, b"GET /height HTTP/1.1\r\nHost: x\r\n\r\n")

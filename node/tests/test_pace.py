@@ -41,7 +41,7 @@ class Paces(unittest.IsolatedAsyncioTestCase):
         while self.clock.now < began + 3600:
             await turns.turn()
             count += 1
-        share = re.search(r"puts { sc2_gpc0_rate ge (\d+) }", (support.ROOT / "node" / "door.cfg").read_text())
+        share = re.search(r"puts { sc2_gpc0_rate,sub\(txn.failed\) ge (\d+) }", (support.ROOT / "node" / "door.cfg").read_text())
         assert share
         self.assertEqual((count <= 19_001, int(share[1])), (True, 20_000))
         self.assertEqual([round(it, 6) for it in self.clock.slept[pace.BURST:]], [0.2] * (count - pace.BURST))

@@ -1,10 +1,25 @@
-//! The program of the ledger on a machine: the words of the command line, its files and its
-//! standard output.
+//! The program of the ledger.
 //!
-//! What it does is `cli_program`'s.
+//! The commands, and what each does, stand in the table of `cli_words`.
+//!
+//! `commands::program` is all of it but the machine: it takes the words of the command line, the
+//! files by `cli_lines::Files`, and where lines are printed. `Disk` is the files of a machine, and
+//! `Terminal` tells how far a replay is. `threads` and `public` are here; the other commands do their
+//! work in `cli_session`, `cli_show` and `cli_peer`.
 #![tactic(auto)]
 
-use cli_program::{Disk, Printer, program};
+mod commands;
+mod disk;
+mod opening;
+mod public;
+mod terminal;
+mod threading;
+mod trouble;
+mod verdict;
+
+use cli_lines::Printer;
+pub use commands::program;
+pub use disk::Disk;
 use std::io::ErrorKind;
 use std::process::ExitCode;
 use std::{env, io};

@@ -155,8 +155,8 @@ returns-in-Err-clause-others g c =
 
 -- ---- what it reads by
 
-pub peer_behind-requires-clause-reader : goal.peer_behind-requires-clause-reader
-peer_behind-requires-clause-reader g c κs within =
+pub peer_behind-ended-requires-clause-reader : goal.peer_behind-ended-requires-clause-reader
+peer_behind-ended-requires-clause-reader g c κs within =
     let contents = g.F.Store.Write.contents in
     let peer = c.in-Ok.peer in
     let holds = λ (is : g.F.Store.StoreFile.is_known ≡ true). let writes = sym c.requires.known ∙ is in
