@@ -1,5 +1,5 @@
 use denote.Param.{param}
-use denote.Param.Send.{IsSync, param_sync}
+use denote.Param.Send.{IsSync}
 use Rattle.std.proofs.Common.{inr, refl, subst}
 use Rattle.std.proofs.lemmas.Bool.{iff_false}
 use Rattle.std.specs.Str.{IsUtf8}
@@ -23,4 +23,4 @@ returns-then-not-is_text-clause-prints g c =
 pub answer-requires-in-None-sync-B : goal.answer-requires-in-None-sync-B
 answer-requires-in-None-sync-B g c κs within =
     let sync_file : IsSync (param 2 g.row.D) = record { shared = c.type_bounds.sync-D.shared } in
-    param_sync 0 _ (sync_stored (param 2 g.row.D) sync_file)
+    record { shared = (sync_stored (param 2 g.row.D) sync_file).shared }

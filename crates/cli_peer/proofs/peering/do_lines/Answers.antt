@@ -1,5 +1,5 @@
 use denote.Param.{param}
-use denote.Param.Send.{IsSync, param_sync}
+use denote.Param.Send.{IsSync}
 use Rattle.std.proofs.Common.{◌∙◌, ◌+◌, ℕ, List, [], inl, Ok, Err, refl, subst, sym}
 use Rattle.std.proofs.lemmas.Result.{err_from_is_err_and}
 use Rattle.std.specs.Global.{Vec}
@@ -183,4 +183,4 @@ returns-clause-stores g c =
 pub next-requires-sync-B : goal.next-requires-sync-B
 next-requires-sync-B g c κs within =
     let sync_file : IsSync (param 2 g.row.D) = record { shared = c.type_bounds.sync-D.shared } in
-    param_sync 0 _ (sync_stored (param 2 g.row.D) sync_file)
+    record { shared = (sync_stored (param 2 g.row.D) sync_file).shared }
