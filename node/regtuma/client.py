@@ -319,8 +319,10 @@ def call_of(chaincode: str, args: Iterable[str] = (), arg: bytes | None = None, 
 
 
 def tls_of(certificate: str, key: str, authority: str) -> ssl.SSLContext:
-    """Shows this certificate, and believes what this authority has signed."""
+    """Shows this certificate, and believes what this authority has signed. As for a node, a server chooses no long handshake."""
     tls = ssl.create_default_context(cafile=authority)
+    tls.minimum_version = ssl.TLSVersion.TLSv1_3
+    tls.set_ecdh_curve("prime256v1")
     tls.load_cert_chain(certificate, key)
     return tls
 
