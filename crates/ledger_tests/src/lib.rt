@@ -12,6 +12,8 @@ mod batch_cutter_test;
 #[cfg(test)]
 mod block_store_test;
 #[cfg(test)]
+mod checkpoint_test;
+#[cfg(test)]
 mod concurrent_reads_test;
 #[cfg(test)]
 mod endorsement_policy_test;
@@ -27,6 +29,8 @@ mod memory_files_test;
 mod orderer_test;
 #[cfg(test)]
 mod peer_node_test;
+#[cfg(test)]
+mod peer_test;
 #[cfg(test)]
 mod persist_map_test;
 #[cfg(test)]

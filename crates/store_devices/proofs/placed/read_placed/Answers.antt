@@ -1,4 +1,4 @@
-use Rattle.std.proofs.Common.{◌≡◌, ◌-◌, ◌<◌, ◌^◌, ◌∙◌, List, ℕ, false, true, Some, None, arith, length, rules, subst}
+use Rattle.std.proofs.Common.{◌≡◌, ◌-◌, ◌<◌, ◌^◌, ◌∙◌, false, true, Some, None, length, rules, subst}
 use Rattle.block_store.specs.OneRecord.{IsRecordIn}
 use Rattle.store_devices.specs.Places.{span_at}
 use Rattle.store_devices.proofs.Lying.{all_there, filled_there, is_there, lies_at, read_there, written}

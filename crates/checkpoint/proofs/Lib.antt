@@ -1,0 +1,6 @@
+pub mod OneSpelling
+pub mod Spans
+pub mod Texts
+pub mod Orders
+pub mod Unique
+pub mod OneKept
