@@ -1,3 +1,4 @@
+pub mod Seen
 pub mod Answering
 pub mod Linked
 pub mod Replays

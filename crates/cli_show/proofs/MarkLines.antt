@@ -8,6 +8,7 @@ use Rattle.fab_types.specs.Committed.{Committed}
 use Rattle.fab_types.specs.declared.block.Block.{Block}
 use Rattle.ledger_model.specs.Chain.{Bytes, Chain}
 use Rattle.log_orderer.specs.Marks.{block_marks}
+use Rattle.kept_state.specs.Keeping.{chain_of}
 use Rattle.ledger_setting.specs.Rule.{table_of}
 use Rattle.ledger_setting.specs.declared.genesis.Genesis.{Genesis}
 use Rattle.store_replay.specs.Replay.{ReplaysFrom}
@@ -73,17 +74,17 @@ marks_told chain t u (Err f) tells marks lost = inl lost
 -- what `marks` comes to
 pub store_told : (g : Genesis) (held : Option Bytes) (r : Replayed) (t u : Told) (answer : Result (Unit {0}) Failure) →
     ReplaysFrom (table_of g.rules.value) held r → Tells t u answer → IfSome (fault_of r) (λ failure. (answer ≡ Err failure) × (u ≡ t)) →
-    OnOk answer (HasTexts (chain_marks r.snapshot) t.bytes u.bytes) → (fault_of r ≡ None → IfErr answer IsBrokenOff) → Answers (Marks g held) t u answer
+    OnOk answer (HasTexts (chain_marks (chain_of r.chain)) t.bytes u.bytes) → (fault_of r ≡ None → IfErr answer IsBrokenOff) → Answers (Marks g held) t u answer
 store_told g held r t u answer replay tells fault marks lost =
-    answers_by (UnlessFault (fault_of r) (TellsMarks r.snapshot)) (Marks g held) t u answer (λ text h. (r, replay, h))
-    (unless_fault (fault_of r) (TellsMarks r.snapshot) t u answer fault (λ none. marks_told r.snapshot t u answer tells marks (lost none)))
+    answers_by (UnlessFault (fault_of r) (TellsMarks (chain_of r.chain))) (Marks g held) t u answer (λ text h. (r, replay, h))
+    (unless_fault (fault_of r) (TellsMarks (chain_of r.chain)) t u answer fault (λ none. marks_told (chain_of r.chain) t u answer tells marks (lost none)))
 
 -- what `marks` begins
 pub store_begun : (g : Genesis) (held : Option Bytes) (r : Replayed) (t u : Told) (answer : Result (Unit {0}) Failure) →
     ReplaysFrom (table_of g.rules.value) held r → IfSome (fault_of r) (λ failure. (answer ≡ Err failure) × (u ≡ t)) →
-    OnErr answer (PrintsPart t u (flat_map line (chain_marks r.snapshot))) → Begins (IsTextOf (Marks g held)) t u answer
+    OnErr answer (PrintsPart t u (flat_map line (chain_marks (chain_of r.chain)))) → Begins (IsTextOf (Marks g held)) t u answer
 store_begun g held r t u answer replay fault part =
-    let text : Bytes = flat_map line (chain_marks r.snapshot) in
+    let text : Bytes = flat_map line (chain_marks (chain_of r.chain)) in
     fault_begins (fault_of r) (IsTextOf (Marks g held)) t u answer fault
     (λ none. begins_part (IsTextOf (Marks g held)) t u answer text
-    (Ok tt, (r, replay, subst (λ (o : Option Failure). UnlessFault o (TellsMarks r.snapshot) (Ok tt) text) (sym none) (refl, refl))) part)
+    (Ok tt, (r, replay, subst (λ (o : Option Failure). UnlessFault o (TellsMarks (chain_of r.chain)) (Ok tt) text) (sym none) (refl, refl))) part)

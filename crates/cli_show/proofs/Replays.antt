@@ -7,6 +7,7 @@ use Rattle.ledger_model.specs.Chain.{Bytes, Chain}
 use Rattle.committer.specs.Fits.{blocks_of}
 use Rattle.block_store.specs.declared.end.End.{End}
 use Rattle.block_store.specs.declared.end.End.TheVariants.{Clean, Torn, Damaged, DeviceFailed}
+use Rattle.kept_state.specs.Keeping.{chain_of}
 use Rattle.ledger_setting.specs.Rule.{table_of}
 use Rattle.ledger_setting.specs.declared.genesis.Genesis.{Genesis}
 use Rattle.store_replay.specs.Replay.{ReplaysFrom}
@@ -41,11 +42,11 @@ part_told l part at chain t u (Err f) tells lines lost = inl lost
 
 pub state_told : (g : Genesis) (part : Part) (at : ℕ) (held : Option Bytes) (r : Replayed) (t u : Told) (answer : Result (Unit {0}) Failure) →
     ReplaysFrom (table_of g.rules.value) held r → Tells t u answer → IfSome (fault_of r) (λ failure. (answer ≡ Err failure) × (u ≡ t)) →
-    OnOk answer (HasLines (part_json g.rules.value part at r.snapshot) t.bytes u.bytes) →
-    (fault_of r ≡ None → AreLinked [] (blocks_of r.snapshot) → IfErr answer IsBrokenOff) → Answers (States g part at held) t u answer
+    OnOk answer (HasLines (part_json g.rules.value part at (chain_of r.chain)) t.bytes u.bytes) →
+    (fault_of r ≡ None → AreLinked [] (blocks_of (chain_of r.chain)) → IfErr answer IsBrokenOff) → Answers (States g part at held) t u answer
 state_told g part at held r t u answer replay tells fault lines lost =
     let l = g.rules.value in
-    let chain = r.snapshot in
+    let chain = (chain_of r.chain) in
     let linked : AreLinked [] (blocks_of chain) = replays_linked (table_of l) [] replay.2.records chain r.differs r.refused replay.2.replays tt in
     answers_by (UnlessFault (fault_of r) (ShowsPart l part at chain)) (States g part at held) t u answer (λ text h. (r, replay, h))
     (unless_fault (fault_of r) (ShowsPart l part at chain) t u answer fault
@@ -54,9 +55,9 @@ state_told g part at held r t u answer replay tells fault lines lost =
 -- what `state` begins
 pub state_begun : (g : Genesis) (part : Part) (at : ℕ) (held : Option Bytes) (r : Replayed) (t u : Told) (answer : Result (Unit {0}) Failure) →
     ReplaysFrom (table_of g.rules.value) held r → IfSome (fault_of r) (λ failure. (answer ≡ Err failure) × (u ≡ t)) →
-    OnErr answer (PrintsFirst (part_json g.rules.value part at r.snapshot) t u) → Begins (StateBegins g part at held) t u answer
+    OnErr answer (PrintsFirst (part_json g.rules.value part at (chain_of r.chain)) t u) → Begins (StateBegins g part at held) t u answer
 state_begun g part at held r t u answer replay fault first =
-    let lines = part_json g.rules.value part at r.snapshot in
+    let lines = part_json g.rules.value part at (chain_of r.chain) in
     fault_begins (fault_of r) (StateBegins g part at held) t u answer fault
     (λ none. begins_by (AreFirstLines lines) (StateBegins g part at held) t u answer (λ text h. (r, replay, none, h)) (begins_first lines t u answer first))
 
@@ -75,10 +76,10 @@ end_told false None t u answer is more whole printed silent = subst (λ (a : Res
 
 -- the chain is shown, and then what is found of it
 pub show_told : (g : Genesis) (from to : ℕ) (r : Replayed) (t u v : Told) (good : Bool) (answer : Result (Unit {0}) Failure) → answer ≡ ends_with good None →
-    IsMore t v → v.failed ≡ t.failed → HasLines (chain_json g from to r.snapshot) t.bytes u.bytes → EndsBy g r u.bytes v.bytes good →
+    IsMore t v → v.failed ≡ t.failed → HasLines (chain_json g from to (chain_of r.chain)) t.bytes u.bytes → EndsBy g r u.bytes v.bytes good →
     Answers (ShowsReplay g from to r) t v answer
 show_told g from to r t u v good answer is more whole chain ends =
-    let line = ending_json ends.0 (length r.snapshot) r.end ∷ [] in
-    let lines = more_lines (chain_json g from to r.snapshot) line t.bytes u.bytes v.bytes chain ends.3 in
-    let p = lines_printed (chain_json g from to r.snapshot ++ line) t v more whole lines in
+    let line = ending_json ends.0 (length (chain_of r.chain)) r.end ∷ [] in
+    let lines = more_lines (chain_json g from to (chain_of r.chain)) line t.bytes u.bytes v.bytes chain ends.3 in
+    let p = lines_printed (chain_json g from to (chain_of r.chain) ++ line) t v more whole lines in
     inr (p.0, (ends.0, ends.1, is ∙ ap (λ (b : Bool). ends_with b None) ends.2, p.1), p.2)

@@ -12,6 +12,7 @@ use Rattle.block_store.specs.Store.{Loads}
 use Rattle.block_store.specs.declared.end.End.{End}
 use Rattle.block_store.specs.declared.end.End.TheVariants.{Clean, Torn, Damaged, DeviceFailed}
 use Rattle.committer.specs.declared.refusal.CommitRefusal.{CommitRefusal}
+use Rattle.kept_state.specs.Keeping.{chain_of}
 use Rattle.ledger_setting.specs.Judging.{next_by}
 use Rattle.ledger_setting.specs.Rule.{table_of}
 use Rattle.store_replay.specs.Lawful.{AreLawful}
@@ -67,10 +68,10 @@ module _ (r : Listed) where
       let next = subst (λ (d : Committed). IsChainOf r (chain ++ d ∷ [])) (sym (is_judged (table_of r) chain c are.1)) (one_more chain c.block of known.0) in
       subst (IsChainOf r) (append_assoc chain (c ∷ []) cs) (lawful (chain ++ c ∷ []) cs next are.2 known.1)
 
-  pub of_replay : (known : Option (List ℕ)) (p : Replayed) → ReplaysFrom (table_of r) known p → IsChainOf r p.snapshot
+  pub of_replay : (known : Option (List ℕ)) (p : Replayed) → ReplaysFrom (table_of r) known p → IsChainOf r (chain_of p.chain)
   of_replay known p h =
       let of = h.2 in
-      replays [] of.records p.snapshot p.differs p.refused of.replays (record { blocks = tt; flags = tt }) (blocks_stored h.0 of.records p.end of.gives)
+      replays [] of.records (chain_of p.chain) p.differs p.refused of.replays (record { blocks = tt; flags = tt }) (blocks_stored h.0 of.records p.end of.gives)
 
   pub of_records : (bytes : List ℕ) (chain : Chain) (end : End) → Loads 1 bytes chain end → AreLawful (table_of r) [] chain → IsChainOf r chain
   of_records bytes chain end loads are = lawful [] chain (record { blocks = tt; flags = tt }) are (blocks_loaded 1 bytes chain end loads)

@@ -9,6 +9,7 @@ use Rattle.ledger_model.specs.Chain.{Bytes, Chain, history}
 use Rattle.ledger_model.specs.State.{state}
 use Rattle.endorsement_policy.specs.Endorsed.{Listed}
 use Rattle.json_chain.specs.Memberships.{standing_behind}
+use Rattle.kept_state.specs.Keeping.{chain_of}
 use Rattle.ledger_setting.specs.Rule.{table_of}
 use Rattle.ledger_setting.specs.declared.genesis.Genesis.{Genesis}
 use Rattle.store_replay.specs.Replay.{ReplaysFrom}
@@ -63,9 +64,9 @@ ShowsPart r part at chain answer text = (answer ≡ Ok tt) × AreLines (part_jso
 -- `state`: a part of the state after the block of a number of the store in a file, unless something is wrong with the store
 abbrev pub States : Genesis → Part → ℕ → Option Bytes → Result (Unit {0}) Failure → Bytes → Type 0
 States g part at held answer text =
-    (r : Replayed) × ReplaysFrom (table_of g.rules.value) held r × UnlessFault (fault_of r) (ShowsPart g.rules.value part at r.snapshot) answer text
+    (r : Replayed) × ReplaysFrom (table_of g.rules.value) held r × UnlessFault (fault_of r) (ShowsPart g.rules.value part at (chain_of r.chain)) answer text
 
 -- what `state` begins, of a store with which nothing is wrong: some first ones of its lines
 abbrev pub StateBegins : Genesis → Part → ℕ → Option Bytes → Bytes → Type 0
 StateBegins g part at held text =
-    (r : Replayed) × ReplaysFrom (table_of g.rules.value) held r × (fault_of r ≡ None) × AreFirstLines (part_json g.rules.value part at r.snapshot) text
+    (r : Replayed) × ReplaysFrom (table_of g.rules.value) held r × (fault_of r ≡ None) × AreFirstLines (part_json g.rules.value part at (chain_of r.chain)) text

@@ -5,6 +5,7 @@ use Rattle.block_store.specs.declared.end.End.{End}
 use Rattle.block_store.specs.declared.end.End.TheVariants.{Clean, Torn, Damaged, DeviceFailed}
 use Rattle.committer.specs.Numbers.{refusal_number}
 use Rattle.simulator.specs.Execution.{exec_of}
+use Rattle.kept_state.specs.Keeping.{chain_of}
 use Rattle.ledger_setting.specs.Rule.{table_of}
 use Rattle.ledger_setting.specs.declared.genesis.Genesis.{Genesis}
 use Rattle.fabric_core.specs.Audit.{AuditSays}
@@ -28,9 +29,9 @@ use Rattle.cli_show.specs.Lines.{AreFirstLines, AreLines, HasLines, chain_json}
 abbrev pub Finds : Genesis → Replayed → Finding → Type 0
 Finds g r (FlagsDiffer block) = r.differs ≡ Some block
 Finds g r (Unfit cause) = (r.differs ≡ None) × (r.refused ≡ Some cause)
-Finds g r (NotAtHand block) = (r.differs ≡ None) × (r.refused ≡ None) × (first_missing g.book.value r.snapshot ≡ Some block)
+Finds g r (NotAtHand block) = (r.differs ≡ None) × (r.refused ≡ None) × (first_missing g.book.value (chain_of r.chain) ≡ Some block)
 Finds g r (Audited audit) =
-    (r.differs ≡ None) × (r.refused ≡ None) × (first_missing g.book.value r.snapshot ≡ None) × AuditSays (exec_of g.book.value) r.snapshot audit
+    (r.differs ≡ None) × (r.refused ≡ None) × (first_missing g.book.value (chain_of r.chain) ≡ None) × AuditSays (exec_of g.book.value) (chain_of r.chain) audit
 
 -- all transactions agree, and the store ends with its last record
 abbrev pub is_good : Finding → End → Bool
@@ -47,7 +48,7 @@ is_good (NotAtHand block) end = false
 abbrev pub EndsBy : Genesis → Replayed → (before after : Option Bytes) → Bool → Type 0
 EndsBy g r before after good =
     (finding : Finding) × Finds g r finding × (good ≡ is_good finding r.end)
-    × HasLines (ending_json finding (length r.snapshot) r.end ∷ []) before after
+    × HasLines (ending_json finding (length (chain_of r.chain)) r.end ∷ []) before after
 
 -- how a task ends that told what it found: by a failure, or by whether nothing is wrong
 abbrev pub ends_with : Bool → Option Failure → Result (Unit {0}) Failure
@@ -77,7 +78,7 @@ Audits g held answer text = (r : Replayed) × ReplaysFrom (table_of g.rules.valu
 abbrev pub ShowsReplay : Genesis → (from to : ℕ) → Replayed → Result (Unit {0}) Failure → Bytes → Type 0
 ShowsReplay g from to r answer text =
     (finding : Finding) × Finds g r finding × (answer ≡ ends_with (is_good finding r.end) None)
-    × AreLines (chain_json g from to r.snapshot ++ ending_json finding (length r.snapshot) r.end ∷ []) text
+    × AreLines (chain_json g from to (chain_of r.chain) ++ ending_json finding (length (chain_of r.chain)) r.end ∷ []) text
 
 -- `show`: of the replay of the store in a file
 abbrev pub Shows : Genesis → (from to : ℕ) → Option Bytes → Result (Unit {0}) Failure → Bytes → Type 0
@@ -86,4 +87,4 @@ Shows g from to held answer text = (r : Replayed) × ReplaysFrom (table_of g.rul
 -- what `show` begins: some first ones of the chain's lines
 abbrev pub ShowBegins : Genesis → (from to : ℕ) → Option Bytes → Bytes → Type 0
 ShowBegins g from to held text =
-    (r : Replayed) × ReplaysFrom (table_of g.rules.value) held r × AreFirstLines (chain_json g from to r.snapshot) text
+    (r : Replayed) × ReplaysFrom (table_of g.rules.value) held r × AreFirstLines (chain_json g from to (chain_of r.chain)) text

@@ -1,5 +1,6 @@
 pub mod Spans
 pub mod Lines
+pub mod Reruns
 pub mod Answers
 pub mod Findings
 pub mod Simulations

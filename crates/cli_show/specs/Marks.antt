@@ -4,6 +4,7 @@ use Rattle.std.specs.List.{flat_map}
 use Rattle.std.specs.Io.KnownBytes.{Appends}
 use Rattle.ledger_model.specs.Chain.{Bytes, Chain}
 use Rattle.log_orderer.specs.Marks.{marks_of}
+use Rattle.kept_state.specs.Keeping.{chain_of}
 use Rattle.ledger_setting.specs.Rule.{table_of}
 use Rattle.ledger_setting.specs.declared.genesis.Genesis.{Genesis}
 use Rattle.store_replay.specs.Replay.{ReplaysFrom}
@@ -25,4 +26,4 @@ TellsMarks chain answer text = (answer ≡ Ok tt) × (text ≡ flat_map line (ch
 
 -- `marks`: of the chain of the store in a file, unless something is wrong with it
 abbrev pub Marks : Genesis → (held : Option Bytes) → Result (Unit {0}) Failure → Bytes → Type 0
-Marks g held answer text = (r : Replayed) × ReplaysFrom (table_of g.rules.value) held r × UnlessFault (fault_of r) (TellsMarks r.snapshot) answer text
+Marks g held answer text = (r : Replayed) × ReplaysFrom (table_of g.rules.value) held r × UnlessFault (fault_of r) (TellsMarks (chain_of r.chain)) answer text

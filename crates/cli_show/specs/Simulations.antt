@@ -6,6 +6,7 @@ use Rattle.ledger_model.specs.Chain.{Bytes, Chain}
 use Rattle.simulator.specs.Answers.{payload_or_refusal}
 use Rattle.simulator.specs.Execution.{exec_of}
 use Rattle.simulator.specs.declared.refusal.SimRefusal.{SimRefusal}
+use Rattle.kept_state.specs.Keeping.{chain_of}
 use Rattle.ledger_setting.specs.Rule.{table_of}
 use Rattle.ledger_setting.specs.declared.genesis.Genesis.{Genesis}
 use Rattle.store_replay.specs.Replay.{ReplaysFrom}
@@ -27,4 +28,4 @@ SimulatesOn g p chain (Err failure) text =
 abbrev pub Simulates : Genesis → Proposal → Option (Option Bytes) → Result (Unit {0}) Failure → Bytes → Type 0
 Simulates g p None answer text = SimulatesOn g p [] answer text
 Simulates g p (Some held) answer text =
-    (r : Replayed) × ReplaysFrom (table_of g.rules.value) held r × UnlessFault (block_fault r.refused r.end) (SimulatesOn g p r.snapshot) answer text
+    (r : Replayed) × ReplaysFrom (table_of g.rules.value) held r × UnlessFault (block_fault r.refused r.end) (SimulatesOn g p (chain_of r.chain)) answer text

@@ -2,12 +2,14 @@
 
 ghost use Rattle.std.specs.Prelude.{◌≡◌, IfErr, OnErr, OnOk};
 ghost use Rattle.cli_lines.specs.Told.{Answers, Begins, IsBrokenOff, IsTextOf, Prints, PrintsNothing, Tells};
-ghost use Rattle.cli_show.specs.Findings.{Audits, AuditsReplay, finding_text};
+ghost use Rattle.ledger_setting.specs.declared.genesis.Genesis.{Genesis};
+ghost use Rattle.cli_show.specs.Findings.{Audits, AuditsReplay, Finds, finding_text};
 
 use crate::explaining::explain_findings;
 use crate::findings::{ends_with, finding_of, is_good};
 use crate::replaying::replayed;
 use crate::showing::end_fault;
+use crate::sinks::Rerun;
 use cli_lines::{Failure, Files, Printer, print_audit, print_missing};
 use endorsement_policy::Workers;
 use json_chain::Finding;
@@ -39,24 +41,25 @@ pub fn audit<T: Threads + Sync, F: Files, W: Write>(
         out.new result }
     ensures kept { F.bytes files.new ≡ F.bytes files.old }
 {
-    let replayed = replayed(workers, alloc, files, genesis, store)?;
-    explain_findings(alloc, files, genesis, store, &replayed);
-    print_replayed(alloc, genesis, &replayed, out)
+    let rerun = Rerun::new(alloc, &genesis.book);
+    let (replayed, rerun) = replayed(workers, alloc, files, genesis, store, rerun)?;
+    let finding = finding_of(&replayed, &rerun);
+    explain_findings(alloc, files, store, &replayed, rerun.missing);
+    print_replayed(&replayed, finding, out)
 }
 
 /// Prints how many blocks a store has, and what is found of it.
 fn print_replayed<W: Write>(
-    alloc: Global,
-    genesis: &Genesis,
     replayed: &Replayed,
+    finding: Finding,
     out: &mut Printer<'_, W>,
 ) -> Result<(), Failure>
     ensures tells { Tells out.old out.new result }
-    ensures answers { Answers (AuditsReplay genesis.now replayed.now) out.old out.new result }
-    ensures begins { Begins (IsTextOf (AuditsReplay genesis.now replayed.now)) out.old out.new
-        result }
+    ensures answers { (g : Genesis) → Finds g replayed.now finding →
+        Answers (AuditsReplay g replayed.now) out.old out.new result }
+    ensures begins { (g : Genesis) → Finds g replayed.now finding →
+        Begins (IsTextOf (AuditsReplay g replayed.now)) out.old out.new result }
 {
-    let finding = finding_of(alloc, genesis, replayed)?;
     let blocks = replayed.blocks;
     writeln!(out, "blocks {blocks}")?;
     print_finding(finding, out)?;

@@ -6,17 +6,17 @@ use crate::showing::{Asked, Shown, fault_of};
 use crate::span::Span;
 use block_store::{End, RecordReader};
 use cli_lines::{
-    Access, Failure, Files, Location, TAKE_AGAIN, block_words, explain, explain_missing,
+    Access, Failure, Files, Location, TAKE_AGAIN, block_words, explain, explain_missing_in,
     explain_trouble, flags_words,
 };
 use fab_types::limits::LAST_BLOCK;
-use ledger_setting::Genesis;
 use std::alloc::{AllocError, Global};
 use std::io::Read;
 use store_replay::Replayed;
 use wasm_file::ModuleRefusal;
 use wasm_profile::Profile;
 use wasm_reasons::module_reason;
+use world_state::Past;
 
 /// What becomes of a part of a record.
 const CUT_OFF: &str = "ledger peer cuts it off";
@@ -71,9 +71,9 @@ pub(crate) fn explain_chain<F: Files>(alloc: Global, files: &mut F, name: &str, 
 pub(crate) fn explain_findings<F: Files>(
     alloc: Global,
     files: &mut F,
-    genesis: &Genesis,
     name: &str,
     replayed: &Replayed,
+    missing: Option<u32>,
 )
     ensures kept { F.bytes files.new ≡ F.bytes files.old }
 {
@@ -81,13 +81,9 @@ pub(crate) fn explain_findings<F: Files>(
         (Some(block), _) => explain_flags(alloc, files, name, block, "flags differ"),
         (None, Some(_)) => explain_unfit(alloc, files, name, replayed),
         (None, None) => {
-            explain_missing(
-                alloc,
-                files,
-                name,
-                &genesis.book,
-                replayed.snapshot.blocks(),
-            );
+            if let Some(block) = missing {
+                explain_missing_in(alloc, files, name, block);
+            }
         }
     }
     explain_end(alloc, files, name, replayed.blocks, replayed.end);
@@ -98,13 +94,13 @@ pub(crate) fn explain_findings<F: Files>(
 pub(crate) fn explain_shown<F: Files>(
     alloc: Global,
     files: &mut F,
-    genesis: &Genesis,
     shown: &Shown<'_>,
     replayed: &Replayed,
+    missing: Option<u32>,
 )
     ensures kept { F.bytes files.new ≡ F.bytes files.old }
 {
-    explain_findings(alloc, files, genesis, shown.store, replayed);
+    explain_findings(alloc, files, shown.store, replayed, missing);
     let Span { from, to } = shown.span;
     if from <= to {
         return explain_absent(alloc, files, shown.store, from, replayed);
@@ -141,7 +137,7 @@ fn explain_absent<F: Files>(
 )
     ensures kept { F.bytes files.new ≡ F.bytes files.old }
 {
-    let height = replayed.snapshot.height();
+    let height = replayed.chain.height() as usize;
     if number <= height {
         return;
     }
@@ -169,7 +165,7 @@ fn explain_unfit<F: Files>(alloc: Global, files: &mut F, name: &str, replayed: &
     ensures kept { F.bytes files.new ≡ F.bytes files.old }
 {
     if let Some(refusal) = replayed.refused {
-        let block = replayed.snapshot.height().saturating_add(1);
+        let block = (replayed.chain.height() as usize).saturating_add(1);
         let words = block_words(alloc, block, refusal);
         explain(alloc, files, &Location::file(name), words);
     }

@@ -6,6 +6,7 @@ ghost use Rattle.block_store.specs.declared.end.End.{End};
 ghost use Rattle.endorsement_policy.specs.Endorsed.{Listed};
 ghost use Rattle.fab_types.specs.BlockWithin.{IsBlock};
 ghost use Rattle.fab_types.specs.declared.block.Block.{Block};
+ghost use Rattle.kept_state.specs.Keeping.{chain_of};
 ghost use Rattle.ledger_model.specs.Chain.{Chain};
 ghost use Rattle.ledger_setting.specs.Judging.{next_by};
 ghost use Rattle.ledger_setting.specs.Rule.{table_of};
@@ -19,7 +20,7 @@ ghost use Rattle.json_chain.specs.Standing.{IsChainOf};
 /// (`replayed`), as `peer` begins with it (`opened`), and with each block that follows (`grown`).
 pub fn stores_hold_chains()
     ensures replayed { (r : Listed) (known : Option (List ℕ)) (p : Replayed) →
-        ReplaysFrom (table_of r) known p → IsChainOf r p.snapshot }
+        ReplaysFrom (table_of r) known p → IsChainOf r (chain_of p.chain) }
     ensures opened { (r : Listed) (bytes : List ℕ) (chain : Chain) (end : End) →
         Loads 1 bytes chain end → AreLawful (table_of r) [] chain → IsChainOf r chain }
     ensures grown { (r : Listed) (chain : Chain) (b : Block) → IsChainOf r chain → IsBlock b →

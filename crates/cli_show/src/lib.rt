@@ -2,6 +2,8 @@
 //! ([`simulate`], and [`trace`] step by step) or a store ([`audit`], [`show`], [`state`] and
 //! [`marks`]), whose chain is committed again. [`version`] tells which program it is.
 //!
+//! `audit` and `sim` hold none of its blocks (`sinks`).
+//!
 //! `show` and `state` print that chain, and the state after it, as lines of JSON (`json_chain`).
 //! [`print_chain`] prints what the genesis sets and the blocks, and [`print_ending`] what is found
 //! of them. Contracts say which lines the writer has then (`specs/Lines.antt`).
@@ -20,6 +22,7 @@ mod members;
 mod replaying;
 mod showing;
 mod simulation;
+mod sinks;
 mod span;
 mod tracing;
 mod versioning;

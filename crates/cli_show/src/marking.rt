@@ -12,6 +12,7 @@ ghost use Rattle.cli_show.specs.Marks.{HasTexts, Marks, chain_marks};
 use crate::explaining::explain_fault;
 use crate::replaying::replayed;
 use crate::showing::fault_of;
+use crate::sinks::Held;
 use cli_lines::{Failure, Files, Printer, print_line};
 use endorsement_policy::Workers;
 use fab_types::{CommittedBlock, Envelope};
@@ -22,6 +23,7 @@ use std::sync::Arc;
 use std::thread::Threads;
 use store_replay::Replayed;
 use wire::encode_envelope;
+use world_state::Snapshot;
 
 /// Prints the marks of a store's chain, a line each: each block's envelopes in hex, in their order,
 /// and `tick`. A replica of the orderer that has read nothing cuts the same blocks of them.
@@ -43,15 +45,17 @@ pub fn marks<T: Threads + Sync, F: Files, W: Write>(
         out.new result }
     ensures kept { F.bytes files.new ≡ F.bytes files.old }
 {
-    let replayed = replayed(workers, alloc, files, genesis, store)?;
+    let held = Held::new(alloc);
+    let (replayed, held) = replayed(workers, alloc, files, genesis, store, held)?;
     explain_fault(alloc, files, store, &replayed);
-    print_marks(alloc, &replayed, out)
+    print_marks(alloc, &replayed, &held.snapshot, out)
 }
 
 /// Prints the marks of a chain that was committed again.
 pub(crate) fn print_marks<W: Write>(
     alloc: Global,
     replayed: &Replayed,
+    snapshot: &Snapshot,
     out: &mut Printer<'_, W>,
 ) -> Result<(), Failure>
     ensures tells { Tells out.old out.new result }
@@ -59,14 +63,14 @@ pub(crate) fn print_marks<W: Write>(
     ensures refused { IfSome (fault_of replayed.now) (λ failure.
         (result ≡ Err failure) × (out.new ≡ out.old)) }
     ensures marks { OnOk result
-        (HasTexts (chain_marks replayed.now.snapshot) out.old.bytes out.new.bytes) }
+        (HasTexts (chain_marks snapshot.now) out.old.bytes out.new.bytes) }
     ensures part { OnErr result
-        (PrintsPart out.old out.new (flat_map line (chain_marks replayed.now.snapshot))) }
+        (PrintsPart out.old out.new (flat_map line (chain_marks snapshot.now))) }
 {
     if let Some(failure) = fault_of(replayed) {
         return Err(failure);
     }
-    print_blocks(alloc, replayed.snapshot.blocks(), out)
+    print_blocks(alloc, snapshot.blocks(), out)
 }
 
 /// Prints the marks of blocks, one after another.

@@ -5,26 +5,30 @@ ghost use Rattle.wire.specs.Links.{AreLinked};
 ghost use Rattle.committer.specs.Fits.{blocks_of};
 ghost use Rattle.cli_lines.specs.Told.{Answers, Begins, IsBrokenOff, Tells};
 ghost use Rattle.cli_show.specs.Answers.{StateBegins, States, block_fault, end_fault, fault_of, part_json};
-ghost use Rattle.cli_show.specs.Findings.{ShowBegins, Shows, ShowsReplay};
+ghost use Rattle.kept_state.specs.Keeping.{IsKept, chain_of};
+ghost use Rattle.cli_show.specs.Findings.{Finds, ShowBegins, Shows, ShowsReplay};
 ghost use Rattle.cli_show.specs.Lines.{AreFirstLines, HasLines, PrintsFirst, chain_json};
 
 use crate::chain::print_chain;
 use crate::entries::print_state;
 use crate::explaining::{explain_asked, explain_shown};
-use crate::findings::{ends_with, print_ending};
+use crate::findings::{ends_with, finding_of, print_ending};
 use crate::members::print_members;
 use crate::replaying::replayed;
+use crate::sinks::{Held, HeldRerun, Rerun};
 use crate::span::Span;
 use crate::writes::print_writes;
 use block_store::End;
 use cli_lines::{Failure, Files, Printer};
 use endorsement_policy::{Rules, Workers};
 use fab_types::Key;
+use json_chain::Finding;
 use ledger_setting::Genesis;
 use std::alloc::Global;
 use std::io::Write;
 use std::thread::Threads;
 use store_replay::Replayed;
+use world_state::Snapshot;
 
 /// What `show` is asked for: these blocks of the store in the file of a name.
 #[derive(Clone, Copy)]
@@ -73,9 +77,16 @@ pub fn show<T: Threads + Sync, F: Files, W: Write>(
         (F.bytes files.old shown.now.store.now)) out.old out.new result }
     ensures kept { F.bytes files.new ≡ F.bytes files.old }
 {
-    let replayed = replayed(workers, alloc, files, genesis, shown.store)?;
-    explain_shown(alloc, files, genesis, shown, &replayed);
-    print_shown(alloc, genesis, &replayed, shown.span, out)
+    let held = Held::new(alloc);
+    let rerun = Rerun::new(alloc, &genesis.book);
+    let sink = HeldRerun { held, rerun };
+    let (replayed, sink) = replayed(workers, alloc, files, genesis, shown.store, sink)?;
+    let finding = finding_of(&replayed, &sink.rerun);
+    explain_shown(alloc, files, shown, &replayed, sink.rerun.missing);
+    let snapshot = &sink.held.snapshot;
+    print_shown(
+        alloc, genesis, &replayed, snapshot, finding, shown.span, out,
+    )
 }
 
 /// Prints the chain of a store, and what is found of it.
@@ -83,18 +94,23 @@ fn print_shown<W: Write>(
     alloc: Global,
     genesis: &Genesis,
     replayed: &Replayed,
+    snapshot: &Snapshot,
+    finding: Finding,
     span: Span,
     out: &mut Printer<'_, W>,
 ) -> Result<(), Failure>
+    requires kept { IsKept replayed.now.chain }
+    requires same { snapshot.now ≡ chain_of replayed.now.chain }
+    requires found { Finds genesis.now replayed.now finding }
     ensures tells { Tells out.old out.new result }
     ensures answers { Answers (ShowsReplay genesis.now span.from span.to replayed.now) out.old
         out.new result }
     ensures begins { Begins
-        (AreFirstLines (chain_json genesis.now span.from span.to replayed.now.snapshot)) out.old
+        (AreFirstLines (chain_json genesis.now span.from span.to snapshot.now)) out.old
         out.new result }
 {
-    print_chain(alloc, genesis, &replayed.snapshot, span, out)?;
-    let is_good = print_ending(alloc, genesis, replayed, out)?;
+    print_chain(alloc, genesis, snapshot, span, out)?;
+    let is_good = print_ending(alloc, replayed, finding, out)?;
     ends_with(is_good, None)
 }
 
@@ -120,9 +136,10 @@ pub fn state<T: Threads + Sync, F: Files, W: Write>(
         (F.bytes files.old asked.now.store.now)) out.old out.new result }
     ensures kept { F.bytes files.new ≡ F.bytes files.old }
 {
-    let replayed = replayed(workers, alloc, files, genesis, asked.store)?;
+    let held = Held::new(alloc);
+    let (replayed, held) = replayed(workers, alloc, files, genesis, asked.store, held)?;
     explain_asked(alloc, files, asked, &replayed);
-    print_asked(alloc, &genesis.rules, &replayed, asked.at, asked.part, out)
+    print_asked(alloc, &genesis.rules, &replayed, &held.snapshot, asked, out)
 }
 
 /// Prints what is asked for of the state after a store, as `state` does.
@@ -130,29 +147,30 @@ pub(crate) fn print_asked<W: Write>(
     alloc: Global,
     rules: &Rules,
     replayed: &Replayed,
-    at: usize,
-    part: Part<'_>,
+    snapshot: &Snapshot,
+    asked: &Asked<'_>,
     out: &mut Printer<'_, W>,
 ) -> Result<(), Failure>
     ensures tells { Tells out.old out.new result }
     ensures refused { IfSome (fault_of replayed.now) (λ failure.
         (result ≡ Err failure) × (out.new ≡ out.old)) }
     ensures lines { OnOk result
-        (HasLines (part_json rules.now part.entry at replayed.now.snapshot) out.old.bytes
+        (HasLines (part_json rules.now asked.now.part asked.now.at snapshot.now) out.old.bytes
         out.new.bytes) }
     // The blocks of a store that is whole are linked.
     ensures lost { fault_of replayed.now ≡ None
-        → AreLinked [] (blocks_of replayed.now.snapshot) → IfErr result IsBrokenOff }
+        → AreLinked [] (blocks_of snapshot.now) → IfErr result IsBrokenOff }
     ensures first { OnErr result
-        (PrintsFirst (part_json rules.now part.entry at replayed.now.snapshot) out.old out.new) }
+        (PrintsFirst (part_json rules.now asked.now.part asked.now.at snapshot.now) out.old
+        out.new) }
 {
     if let Some(failure) = fault_of(replayed) {
         return Err(failure);
     }
-    match part {
-        Part::Entries => print_state(alloc, &replayed.snapshot, at, out),
-        Part::Writes(key) => print_writes(alloc, &replayed.snapshot, key, at, out),
-        Part::Members => print_members(alloc, rules, &replayed.snapshot, at, out),
+    match asked.part {
+        Part::Entries => print_state(alloc, snapshot, asked.at, out),
+        Part::Writes(key) => print_writes(alloc, snapshot, key, asked.at, out),
+        Part::Members => print_members(alloc, rules, snapshot, asked.at, out),
     }
 }
 

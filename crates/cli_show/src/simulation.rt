@@ -3,6 +3,7 @@
 ghost use Rattle.std.specs.Prelude.{◌≡◌, option_map};
 ghost use Rattle.cli_lines.specs.Told.{Answers, Begins, IsTextOf, Tells};
 ghost use Rattle.cli_show.specs.Answers.{UnlessFault, block_fault};
+ghost use Rattle.kept_state.specs.Keeping.{IsKept, chain_of};
 ghost use Rattle.cli_show.specs.Simulations.{Simulates, SimulatesOn};
 
 use crate::explaining::explain_chain;
@@ -11,12 +12,13 @@ use crate::showing::chain_fault;
 use cli_lines::{Failure, Files, Printer, print_payload};
 use endorsement_policy::Workers;
 use fab_types::Proposal;
+use kept_state::KeptChain;
 use ledger_setting::Genesis;
 use std::alloc::Global;
 use std::io::Write;
 use std::thread::Threads;
-use store_replay::Replayed;
-use world_state::Snapshot;
+use store_replay::{Replayed, Unheld};
+use world_state::Past;
 
 /// What `sim` is asked for: this call, on the state after the store in the file of a name, or on the
 /// empty state.
@@ -53,11 +55,11 @@ pub fn simulate<T: Threads + Sync, F: Files, W: Write>(
     let proposal = simulated.proposal;
     match simulated.store {
         None => {
-            let empty = Snapshot::empty(alloc);
+            let empty = KeptChain::empty(alloc);
             print_call(alloc, genesis, &empty, proposal, out)
         }
         Some(name) => {
-            let replayed = replayed(workers, alloc, files, genesis, name)?;
+            let (replayed, _) = replayed(workers, alloc, files, genesis, name, Unheld)?;
             explain_chain(alloc, files, name, &replayed);
             print_call_after(alloc, genesis, &replayed, proposal, out)
         }
@@ -72,34 +74,38 @@ fn print_call_after<W: Write>(
     proposal: &Proposal,
     out: &mut Printer<'_, W>,
 ) -> Result<(), Failure>
+    requires kept { IsKept replayed.now.chain }
     ensures tells { Tells out.old out.new result }
     ensures answers { Answers
         (UnlessFault (block_fault replayed.now.refused replayed.now.end)
-        (SimulatesOn genesis.now proposal.now replayed.now.snapshot)) out.old out.new result }
+        (SimulatesOn genesis.now proposal.now (chain_of replayed.now.chain))) out.old out.new
+        result }
     ensures begins { Begins
         (IsTextOf (UnlessFault (block_fault replayed.now.refused replayed.now.end)
-        (SimulatesOn genesis.now proposal.now replayed.now.snapshot))) out.old out.new result }
+        (SimulatesOn genesis.now proposal.now (chain_of replayed.now.chain)))) out.old out.new
+        result }
 {
     match chain_fault(replayed) {
         Some(failure) => Err(failure),
-        None => print_call(alloc, genesis, &replayed.snapshot, proposal, out),
+        None => print_call(alloc, genesis, &replayed.chain, proposal, out),
     }
 }
 
-/// Simulates a call on the state of a snapshot.
+/// Simulates a call on the state after a chain.
 fn print_call<W: Write>(
     alloc: Global,
     genesis: &Genesis,
-    snapshot: &Snapshot,
+    chain: &KeptChain,
     proposal: &Proposal,
     out: &mut Printer<'_, W>,
 ) -> Result<(), Failure>
+    requires kept { IsKept chain.now }
     ensures tells { Tells out.old out.new result }
-    ensures answers { Answers (SimulatesOn genesis.now proposal.now snapshot.now) out.old out.new
-        result }
-    ensures begins { Begins (IsTextOf (SimulatesOn genesis.now proposal.now snapshot.now)) out.old
+    ensures answers { Answers (SimulatesOn genesis.now proposal.now (chain_of chain.now)) out.old
         out.new result }
+    ensures begins { Begins (IsTextOf (SimulatesOn genesis.now proposal.now (chain_of chain.now)))
+        out.old out.new result }
 {
-    let payload = simulator::simulate(alloc, &*genesis.book, snapshot, proposal)?;
+    let payload = simulator::simulate_in(alloc, &*genesis.book, chain.map(), proposal)?;
     print_payload(alloc, &payload, out)
 }

@@ -4,10 +4,11 @@ ghost use Rattle.std.specs.Prelude.{◌≡◌, [], ◌∷◌, IfOk, OnErr, OnOk}
 ghost use Rattle.serde_json.specs.View.{view};
 ghost use Rattle.cli_lines.specs.Told.{Answers, PrintsNothing, Tells};
 ghost use Rattle.cli_show.specs.Lines.{HasLines};
-ghost use Rattle.cli_show.specs.Version.{Versions, version_json};
+ghost use Rattle.cli_show.specs.Version.{Versions, told_json, version_json};
 
 use cli_lines::{Failure, Printer, print_line};
 use json_chain::{Object, line_of};
+use ledger_table::table_of;
 use serde_json::Value;
 use std::alloc::{AllocError, Global};
 use std::io::Write;
@@ -25,16 +26,31 @@ const RULES: u8 = 2;
 /// The number of the bytes of a store.
 const STORE: u8 = 1;
 
-/// Prints these numbers as a line of JSON.
-pub fn version<W: Write>(alloc: Global, out: &mut Printer<'_, W>) -> Result<(), Failure>
+/// Prints these numbers, or the table, as a line of JSON.
+pub fn version<W: Write>(
+    alloc: Global,
+    has_table: bool,
+    out: &mut Printer<'_, W>,
+) -> Result<(), Failure>
     ensures tells { Tells out.old out.new result }
-    ensures answers { Answers Versions out.old out.new result }
+    ensures answers { Answers (Versions has_table) out.old out.new result }
     ensures line { OnOk result
-        (HasLines (version_json PROGRAM LINES RULES STORE ∷ []) out.old.bytes out.new.bytes) }
+        (HasLines (told_json has_table ∷ []) out.old.bytes out.new.bytes) }
     ensures nothing { OnErr result (PrintsNothing out.old out.new) }
 {
-    let line = line_of(alloc, &numbers(alloc)?)?;
+    let line = line_of(alloc, &told(alloc, has_table)?)?;
     print_line(&line, out)
+}
+
+/// The table of what the program's words stand for, or these numbers.
+fn told(alloc: Global, has_table: bool) -> Result<Value, AllocError>
+    ensures { IfOk result (λ v. view v ≡ told_json has_table) }
+{
+    if has_table {
+        table_of(alloc)
+    } else {
+        numbers(alloc)
+    }
 }
 
 /// These numbers.

@@ -47,7 +47,8 @@ writes_low key (t ∷ ts) =
 
 pub answer_low : (g : Genesis) (q : Question) (chain read : Chain) → depth (answer_from g q chain read) ≤ 7
 answer_low g Setting chain read = omega (arith, genesis_low g)
-answer_low g Members chain read = omega (arith, standing_low g.rules.value (usable_membership g.rules.value.installed.orgs (get (plain_after chain) membership_key)))
+answer_low g Members chain read =
+    omega (arith, standing_low g.rules.value (usable_membership g.rules.value.installed.orgs (get (plain_after chain) membership_key)))
 answer_low g (Block n) chain read =
     let orgs = orgs_before g.rules.value n chain in
     or_null_low (block_json orgs) 7 (block_low orgs) (slice_get read (n - 1))

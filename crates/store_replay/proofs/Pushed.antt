@@ -18,12 +18,17 @@ pub by_test : (rule : BlockRule) (chain : Chain) (c : Committed) (b : Bool) →
 by_test rule chain c true h = h
 by_test rule chain c false h = h
 
--- a block that was judged behind a chain stands there as the rule has it
+-- a block that was judged behind a chain is committed as the rule has it
+pub as_judged : (rule : BlockRule) (chain : Chain) (b c : Block) (judged : Judged) → b ≡ c → IsJudged rule chain c judged →
+    flagged b judged ≡ next_by rule chain c
+as_judged rule chain b c judged same is =
+    ap (λ (x : Block). flagged x judged) same ∙ ap (λ (fs : List Flag). record { block = c; flags = fs }) is.flags
+
+-- and stands there
 pub grown : (rule : BlockRule) (chain last : Chain) (b c : Block) (judged : Judged) → b ≡ c → IsJudged rule chain c judged →
     last ≡ chain ++ flagged b judged ∷ [] → last ≡ chain ++ next_by rule chain c ∷ []
 grown rule chain last b c judged same is on =
-    on ∙ ap (λ (x : Block). chain ++ flagged x judged ∷ []) same
-    ∙ ap (λ (fs : List Flag). chain ++ record { block = c; flags = fs } ∷ []) is.flags
+    on ∙ ap (λ (x : Committed). chain ++ x ∷ []) (as_judged rule chain b c judged same is)
 
 -- and as the record has it, where that has the rule's flags
 pub stands : (rule : BlockRule) (chain last : Chain) (b : Block) (c : Committed) (judged : Judged) → b ≡ c.block → IsJudged rule chain c.block judged →
@@ -48,3 +53,10 @@ for_memory rule chain c judged is = (is.fits.room, is.fits.number, is.fits.previ
 pub one_more : (rule : BlockRule) (chain : Chain) (c : Committed) (is_same : Bool) (last : Chain) → IsPushed rule chain c is_same last →
     length last ≡ length chain + 1
 one_more rule chain c is_same last is = ap (λ (s : Chain). length s) is.grown ∙ length-append chain (next_by rule chain c.block ∷ [])
+
+-- a block as it is committed behind a chain has the next number
+pub has_number : (rule : BlockRule) (chain : Chain) (c made : Committed) → made ≡ next_by rule chain c.block → Fits (blocks_of chain) c.block →
+    made.block.header.number ≡ length chain + 1
+has_number rule chain c made is fits =
+    let same = ap (λ (x : Committed). x.block.header.number) is in
+    omega (arith, same, fits.number, length-map chain (λ (d : Committed). d.block))

@@ -3,3 +3,4 @@ pub mod Lawful
 pub mod Tags
 pub mod Numbers
 pub mod Recommitting
+pub mod Replaying

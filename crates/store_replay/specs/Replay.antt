@@ -6,6 +6,7 @@ use Rattle.ledger_model.specs.Judged.{BlockRule}
 use Rattle.committer.specs.Fits.{Fits, IsRefused, blocks_of}
 use Rattle.committer.specs.declared.refusal.CommitRefusal.{CommitRefusal}
 use Rattle.committer.specs.declared.refusal.CommitRefusal.TheVariants.{Memory}
+use Rattle.kept_state.specs.Keeping.{IsKept, chain_of}
 use Rattle.ledger_setting.specs.Judging.{next_by}
 use Rattle.block_store.specs.Loading.{Gives, StoreGives}
 use Rattle.store_replay.specs.declared.replaying.Replayed.{Replayed}
@@ -52,14 +53,16 @@ pub record IsReplayed (rule : BlockRule) (before now : List ℕ) (r : Replayed) 
   pub read : now ≡ before ++ bytes
   pub gives : Gives bytes records r.end
   pub count : r.blocks ≡ length records
-  pub replays : Replays rule [] records r.snapshot r.differs r.refused
+  pub kept : IsKept r.chain
+  pub replays : Replays rule [] records (chain_of r.chain) r.differs r.refused
 
 -- of a store with these bytes the whole blocks, committed, and the end; where the device failed, of a beginning of it
 pub record IsReplayOf (rule : BlockRule) (bytes : List ℕ) (r : Replayed) : Type 0 where
   pub records : List Committed
   pub gives : StoreGives bytes records r.end
   pub count : r.blocks ≡ length records
-  pub replays : Replays rule [] records r.snapshot r.differs r.refused
+  pub kept : IsKept r.chain
+  pub replays : Replays rule [] records (chain_of r.chain) r.differs r.refused
 
 -- so a store was replayed, which has the known bytes where they are known
 abbrev pub ReplaysFrom : BlockRule → Option (List ℕ) → Replayed → Type 0

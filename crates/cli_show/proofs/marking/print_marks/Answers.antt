@@ -14,7 +14,7 @@ returns-clause-marks g c =
 
 pub returns-in-Some-clause-part : goal.returns-in-Some-clause-part
 returns-in-Some-clause-part g c =
-    part_none c.args.out.now c.args.out.now (flat_map line (chain_marks c.args.replayed.now.snapshot)) (nothing_same c.args.out.now)
+    part_none c.args.out.now c.args.out.now (flat_map line (chain_marks c.args.snapshot.now)) (nothing_same c.args.out.now)
 
 pub returns-clause-part : goal.returns-clause-part
 returns-clause-part g c =

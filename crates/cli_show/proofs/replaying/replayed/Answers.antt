@@ -7,7 +7,7 @@ pub returns-clause-replayed : goal.returns-clause-replayed
 returns-clause-replayed g c =
     let read = c.in_ok-replay_store in
     let same = ap (λ x. g.F.Reader.Read.remaining x) c.new-device.ensures.device ∙ c.in-Some.ensures.read in
-    subst (λ (o : Option (List ℕ)). ReplaysFrom (table_of c.args.genesis.now.rules.value) o read.field-0) same read.ensures.store
+    subst (λ (o : Option (List ℕ)). ReplaysFrom (table_of c.args.genesis.now.rules.value) o read.field-0.0) same read.ensures.store
 
 pub returns-clause-kept : goal.returns-clause-kept
 returns-clause-kept g c = c.watch-watch.ensures.kept ∙ c.open.ensures.kept

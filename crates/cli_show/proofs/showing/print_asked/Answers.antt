@@ -8,11 +8,12 @@ use Rattle.cli_show.proofs.showing.print_asked.Goals as goal
 
 pub returns-in-Some-clause-first : goal.returns-in-Some-clause-first
 returns-in-Some-clause-first g c =
-    first_none (part_json c.args.rules.now c.args.part c.args.at c.args.replayed.now.snapshot) c.args.out.now c.args.out.now (nothing_same c.args.out.now)
+    first_none (part_json c.args.rules.now c.args.asked.now.part c.args.asked.now.at c.args.snapshot.now) c.args.out.now c.args.out.now
+    (nothing_same c.args.out.now)
 
 pub returns-in-Members-clause-first : goal.returns-in-Members-clause-first
 returns-in-Members-clause-first g c =
-    let lines = members_json c.args.rules.now c.args.at c.args.replayed.now.snapshot ∷ [] in
+    let lines = members_json c.args.rules.now c.args.asked.now.at c.args.snapshot.now ∷ [] in
     let t = c.args.out.now in
     let u = c.print_members.new.out in
     rw c.in-Members.is

@@ -1,7 +1,8 @@
-use Rattle.std.proofs.Common.{[], None, sym, ◌∙◌, arith}
+use Rattle.std.proofs.Common.{[], None, subst, sym, ◌∙◌, arith}
+use Rattle.ledger_model.specs.Chain.{Chain}
 use Rattle.std.proofs.lemmas.List.{append-nil}
 use Rattle.cli_lines.proofs.Printing.{on_err}
-use Rattle.cli_show.specs.Lines.{AreFirstLines, chain_json}
+use Rattle.cli_show.specs.Lines.{AreFirstLines, HasLines, chain_json}
 use Rattle.cli_show.proofs.First.{begins_first, ends_whole, first_left}
 use Rattle.cli_lines.proofs.Silence.{and_more}
 use Rattle.cli_show.proofs.Replays.{end_told, show_told}
@@ -20,16 +21,17 @@ returns-clause-answers g c =
     let next = c.in_ok-is_good.ensures in
     show_told c.args.genesis.now c.args.span.from c.args.span.to c.args.replayed.now c.args.out.now c.print_chain.new.out c.print_ending.new.out
     c.in_ok-is_good.is_good c.ends_with.result c.ends_with.ensures (and_more _ _ _ first.tells.0 next.tells.0) (next.tells.1 ∙ first.tells.1)
-    first.lines next.line
+    (subst (λ (chain : Chain). HasLines (chain_json c.args.genesis.now c.args.span.from c.args.span.to chain) c.args.out.now.bytes c.print_chain.new.out.bytes)
+    c.requires.same first.lines) (next.line c.args.genesis.now c.requires.found)
 
 pub returns-in_err-print_chain-clause-begins : goal.returns-in_err-print_chain-clause-begins
 returns-in_err-print_chain-clause-begins g c =
-    begins_first (chain_json c.args.genesis.now c.args.span.from c.args.span.to c.args.replayed.now.snapshot) c.args.out.now c.print_chain.new.out
+    begins_first (chain_json c.args.genesis.now c.args.span.from c.args.span.to c.args.snapshot.now) c.args.out.now c.print_chain.new.out
     c.from_residual.result (on_err c.from_residual.result _ c.in_err-print_chain.ensures.first)
 
 pub returns-in_err-is_good-clause-begins : goal.returns-in_err-is_good-clause-begins
 returns-in_err-is_good-clause-begins g c =
-    let all = chain_json c.args.genesis.now c.args.span.from c.args.span.to c.args.replayed.now.snapshot in
+    let all = chain_json c.args.genesis.now c.args.span.from c.args.span.to c.args.snapshot.now in
     let first = c.in_ok-print_chain.ensures in
     begins_first all c.args.out.now c.print_ending.new.out c.from_residual-in_err-is_good.result
     (on_err c.from_residual-in_err-is_good.result _ (first_left all all [] c.args.out.now c.print_chain.new.out c.print_ending.new.out
@@ -37,5 +39,5 @@ returns-in_err-is_good-clause-begins g c =
 
 pub returns-clause-begins : goal.returns-clause-begins
 returns-clause-begins g c =
-    ends_whole c.in_ok-is_good.is_good (AreFirstLines (chain_json c.args.genesis.now c.args.span.from c.args.span.to c.args.replayed.now.snapshot))
+    ends_whole c.in_ok-is_good.is_good (AreFirstLines (chain_json c.args.genesis.now c.args.span.from c.args.span.to c.args.snapshot.now))
     c.args.out.now c.print_ending.new.out c.ends_with.result c.ends_with.ensures

@@ -1,6 +1,7 @@
 use Rattle.std.proofs.Common.{Some, inl, subst, ◌∙◌, refl}
 use Rattle.std.proofs.lemmas.Result.{err_from_is_err_and}
 use Rattle.ledger_model.specs.Chain.{Chain}
+use Rattle.kept_state.specs.Keeping.{chain_of}
 use Rattle.cli_lines.proofs.Answering.{answers_by, begins_by}
 use Rattle.cli_lines.specs.Told.{Answers, Begins, IsTextOf}
 use Rattle.cli_lines.proofs.Printing.{nothing_same}
@@ -23,7 +24,8 @@ pub returns-in-None-clause-answers : goal.returns-in-None-clause-answers
 returns-in-None-clause-answers g c =
     let p = c.args.simulated.now.proposal.now in
     let last = c.print_call in
-    rw c.in-None.is (subst (λ (chain : Chain). Answers (SimulatesOn c.args.genesis.now p chain) c.args.out.now last.new.out last.result) c.empty-empty.ensures
+    rw c.in-None.is (subst (λ (chain : Chain). Answers (SimulatesOn c.args.genesis.now p chain) c.args.out.now last.new.out last.result)
+    c.empty-empty.ensures.chain
     last.ensures.answers)
 
 pub returns-in_ok-replayed-in-Some-clause-answers : goal.returns-in_ok-replayed-in-Some-clause-answers
@@ -32,7 +34,7 @@ returns-in_ok-replayed-in-Some-clause-answers g c =
     let p = c.args.simulated.now.proposal.now in
     let r = c.in_ok-replayed-in-Some.replayed in
     let last = c.print_call_after in
-    rw c.in-Some.is (answers_by (UnlessFault (block_fault r.refused r.end) (SimulatesOn genesis p r.snapshot))
+    rw c.in-Some.is (answers_by (UnlessFault (block_fault r.refused r.end) (SimulatesOn genesis p (chain_of r.chain)))
     (Simulates genesis p (Some (g.F.Files.bytes c.args.files.now c.in-Some.name.now))) c.args.out.now last.new.out last.result
     (λ text h. (r, c.in_ok-replayed-in-Some.ensures.replayed, h)) last.ensures.answers)
 
@@ -41,7 +43,7 @@ returns-in-None-clause-begins g c =
     let p = c.args.simulated.now.proposal.now in
     let last = c.print_call in
     rw c.in-None.is (subst (λ (chain : Chain). Begins (IsTextOf (SimulatesOn c.args.genesis.now p chain)) c.args.out.now last.new.out last.result)
-    c.empty-empty.ensures last.ensures.begins)
+    c.empty-empty.ensures.chain last.ensures.begins)
 
 pub returns-in_ok-replayed-in-Some-clause-begins : goal.returns-in_ok-replayed-in-Some-clause-begins
 returns-in_ok-replayed-in-Some-clause-begins g c =
@@ -49,7 +51,7 @@ returns-in_ok-replayed-in-Some-clause-begins g c =
     let p = c.args.simulated.now.proposal.now in
     let r = c.in_ok-replayed-in-Some.replayed in
     let last = c.print_call_after in
-    rw c.in-Some.is (begins_by (IsTextOf (UnlessFault (block_fault r.refused r.end) (SimulatesOn genesis p r.snapshot)))
+    rw c.in-Some.is (begins_by (IsTextOf (UnlessFault (block_fault r.refused r.end) (SimulatesOn genesis p (chain_of r.chain))))
     (IsTextOf (Simulates genesis p (Some (g.F.Files.bytes c.args.files.now c.in-Some.name.now)))) c.args.out.now last.new.out last.result
     (λ text h. (h.0, (r, c.in_ok-replayed-in-Some.ensures.replayed, h.1))) last.ensures.begins)
 
@@ -64,3 +66,6 @@ returns-in-None-clause-tells g c = c.print_call.ensures.tells
 
 pub returns-in_ok-replayed-in-Some-clause-tells : goal.returns-in_ok-replayed-in-Some-clause-tells
 returns-in_ok-replayed-in-Some-clause-tells g c = c.print_call_after.ensures.tells
+
+pub print_call_after-requires : goal.print_call_after-requires
+print_call_after-requires g c = record { kept = c.in_ok-replayed-in-Some.ensures.replayed.2.kept }

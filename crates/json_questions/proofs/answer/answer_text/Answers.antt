@@ -19,6 +19,8 @@ returns-clause-answered g c =
     let a = c.in_ok-answer.ensures.answered in
     let asked = c.args.question.now in
     let chain = g.B.Blocks.chain c.args.blocks.now in
-    let text = text_of {E = Unit {0}} (Ok c.in_ok-line_of.field-0) _ (answer_from c.args.genesis.now asked chain a.0) a.2 (answer_plain c.args.genesis.now asked chain a.0)
+    let genesis = c.args.genesis.now in
+    let plain = answer_plain genesis asked chain a.0 in
+    let text = text_of {E = Unit {0}} (Ok c.in_ok-line_of.field-0) _ (answer_from genesis asked chain a.0) a.2 plain
     c.in_ok-line_of.ensures.text c.in_ok-line_of.ensures.read in
     (a.0, a.1, text)

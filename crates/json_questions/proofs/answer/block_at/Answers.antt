@@ -17,7 +17,8 @@ returns-then-number-height-clause-answered g c =
     let tall : c.height.result ≡ length chain =
     c.height.ensures.value ∙ kept.state.height ∙ ap (λ (cs : Chain). length cs) c.kept-chain.ensures.chain in
     let past : length chain ≤ n - 1 = omega (arith, tall, c.if-number-height.true, c.get-number.ensures.value) in
-    (chain, gives_chain g.B.Blocks.keeps chain, absent (block_json (orgs_before c.args.rules.now n chain)) (slice_get chain (n - 1)) (slice_get_past chain (n - 1) past))
+    let none = absent (block_json (orgs_before c.args.rules.now n chain)) (slice_get chain (n - 1)) (slice_get_past chain (n - 1) past) in
+    (chain, gives_chain g.B.Blocks.keeps chain, none)
 
 pub returns-clause-answered : goal.returns-clause-answered
 returns-clause-answered g c =

@@ -24,4 +24,5 @@ returns c =
     ≡ call_of c.args.chaincode.now c.args.argument.now =
     λ i. proposal.Call (record { chaincode = c.in_ok-clone.ensures.cases i; argument = c.in_ok-clone-2.ensures.cases i; nonce = replicate 16 0 }) in
     c.refused_of.ensures (payload_in (exec_of c.args.book.now) (call_of c.args.chaincode.now c.args.argument.now) (as_state c.args.state.now.entries))
-    (subst (λ (p : Proposal). Answers (payload_in (exec_of c.args.book.now) p (as_state c.args.state.now.entries)) (Err c.in-Err.refusal)) asked c.in-Err.ensures.answer)
+    (subst (λ (p : Proposal). Answers (payload_in (exec_of c.args.book.now) p (as_state c.args.state.now.entries)) (Err c.in-Err.refusal)) asked
+    c.in-Err.ensures.answer)

@@ -1,55 +1,73 @@
-use Rattle.std.proofs.Common.{rules, [], ◌≡◌, ◌∙◌, ◌∷◌, sym, subst, Option, ℕ}
-use Rattle.ledger_model.specs.Chain.{Chain}
+use Rattle.std.proofs.Common.{rules, ◌≡◌, ◌≢◌, ◌∙◌, ◌++◌, ◌∷◌, [], None, List, Option, ap, append-nil, append_assoc, sym, subst}
+use Rattle.fab_types.specs.Committed.{Committed}
+use Rattle.kept_state.specs.Keeping.{chain_of}
+use Rattle.committer.specs.declared.refusal.CommitRefusal.{CommitRefusal}
 use Rattle.ledger_setting.specs.Rule.{table_of}
-use Rattle.store_replay.specs.Replay.{IsUnfit}
-use Rattle.store_replay.proofs.Going.{GoesOn, at_none, goes_on, stops, ends}
+use Rattle.store_replay.specs.Replay.{Replays}
 use Rattle.store_replay.specs.Tags.{orgs_at}
+use Rattle.store_replay.proofs.Going.{stopped_before}
 use Rattle.store_replay.proofs.RightTags.{of_none}
 use Rattle.store_replay.proofs.replaying.commit_all.Goals as goal
-use Rattle.store_replay.proofs.replaying.commit_all.Goals.{in_default, in-Some+in-Err}
 
 pub records-init : goal.records-init
 records-init g c = record {
-  goes_on = search rules;
+  done = [];
+  all = search rules;
+  fits = c.requires.fits;
+  kept = c.requires.kept;
+  replays = λ cs h.
+      subst (λ (xs : List Committed). Replays (table_of c.args.rules.now) [] xs (chain_of c.args.progress.now.chain) c.args.progress.now.differs None)
+      (sym (append-nil cs)) h;
+  took = c.requires.took;
+  context = search rules;
   known = of_none (orgs_at c.args.rules.now c.new-pending.result.value) _ _ c.new-pending.ensures.known;
-  fits = search rules;
 }
 
 pub records-preserved : goal.records-preserved
 records-preserved g c =
     let rule = table_of c.args.rules.now in
-    let all = c.args.records.items in
-    let chain = c.records.progress.snapshot in
-    let differs = c.records.progress.differs in
+    let done = c.records.invariant.done in
+    let stored = c.in-Some.stored in
     let left = c.next.new.self.records.items in
-    let last = c.push.new.snapshot in
-    let steps : c.records.pending.records.items ≡ c.in-Some.stored ∷ left = c.in-Some.ensures.next in
-    let next = goes_on rule all chain differs c.in-Some.stored left c.in-Ok.is_same last
-    (subst (GoesOn rule all chain differs) steps c.records.invariant.goes_on) c.in-Ok.ensures.pushed in
+    let new = c.commit_next.new.progress in
+    let steps : c.records.pending.records.items ≡ stored ∷ left = c.in-Some.ensures.next in
+    let none : new.refused ≡ None = search rules in
     record {
-      goes_on =
-          subst (λ (s : Chain). GoesOn rule all s c.note.new.self.differs left) (sym c.note.ensures.chain)
-          (subst (λ (d : Option ℕ). GoesOn rule all last d left) (sym c.note.ensures.differs) next);
+      done = done ++ stored ∷ [];
+      all = c.records.invariant.all ∙ ap (λ (cs : List Committed). done ++ cs) steps ∙ sym (append_assoc done (stored ∷ []) left);
+      fits = none;
+      kept = c.in_ok-commit_next.ensures.kept;
+      replays = λ cs h.
+          subst (λ (r : Option CommitRefusal). Replays rule [] (cs ++ (done ++ stored ∷ [])) (chain_of new.chain) new.differs r) none
+          (subst (λ (xs : List Committed). Replays rule [] xs (chain_of new.chain) new.differs new.refused) (append_assoc cs done (stored ∷ []))
+          (c.in_ok-commit_next.ensures.replays (cs ++ done) (c.records.invariant.replays cs h)));
+      took = c.in_ok-commit_next.ensures.took;
+      context = c.in_ok-commit_next.ensures.context ∙ c.records.invariant.context;
       known = c.next.ensures.known;
-      fits = c.note.ensures.refused ∙ c.records.invariant.fits;
     }
 
-pub returns : goal.returns
-returns g c =
+pub returns-then-is_some-clause-replays : goal.returns-then-is_some-clause-replays
+returns-then-is_some-clause-replays g c = λ cs h.
     let rule = table_of c.args.rules.now in
-    let all = c.args.records.items in
-    let chain = c.records.progress.snapshot in
-    let differs = c.records.progress.differs in
-    elim c.match-next.branch [
-      | in_default w ↦
-          let over : c.records.pending.records.items ≡ [] = at_none c.next.result _ _ w.in_default.is c.next.ensures.next in
-          let done = ends rule all chain differs (subst (GoesOn rule all chain differs) over c.records.invariant.goes_on) in
-          search rules
-      | in-Some+in-Err w ↦
-          let left = c.next.new.self.records.items in
-          let steps : c.records.pending.records.items ≡ w.in-Some.stored ∷ left = w.in-Some.ensures.next in
-          let unfit : IsUnfit chain w.in-Some.stored w.in-Err.cause = search rules in
-          let done = stops rule all chain differs w.in-Some.stored left w.in-Err.cause w.push.new.snapshot
-          (subst (GoesOn rule all chain differs) steps c.records.invariant.goes_on) unfit w.in-Err.ensures.unchanged in
-          search rules
-    ]
+    let done = c.records.invariant.done in
+    let stored = c.in-Some.stored in
+    let left = c.next.new.self.records.items in
+    let new = c.commit_next.new.progress in
+    let steps : c.records.pending.records.items ≡ stored ∷ left = c.in-Some.ensures.next in
+    let some : new.refused ≢ None = search rules in
+    let here = c.in_ok-commit_next.ensures.replays (cs ++ done) (c.records.invariant.replays cs h) in
+    let all : c.args.records.items ≡ done ++ stored ∷ left = c.records.invariant.all ∙ ap (λ (xs : List Committed). done ++ xs) steps in
+    let whole : ((cs ++ done) ++ stored ∷ []) ++ left ≡ cs ++ c.args.records.items =
+    append_assoc (cs ++ done) (stored ∷ []) left ∙ append_assoc cs done (stored ∷ left) ∙ ap (λ (xs : List Committed). cs ++ xs) (sym all) in
+    subst (λ (xs : List Committed). Replays rule [] xs (chain_of new.chain) new.differs new.refused) whole
+    (stopped_before rule ((cs ++ done) ++ stored ∷ []) left (chain_of new.chain) new.differs new.refused some here)
+
+pub returns-clause-replays : goal.returns-clause-replays
+returns-clause-replays g c = λ cs h.
+    let rule = table_of c.args.rules.now in
+    let done = c.records.invariant.done in
+    let last = c.records.progress in
+    let over : c.records.pending.records.items ≡ [] = search rules in
+    let all : c.args.records.items ≡ done = c.records.invariant.all ∙ ap (λ (xs : List Committed). done ++ xs) over ∙ append-nil done in
+    subst (λ (r : Option CommitRefusal). Replays rule [] (cs ++ c.args.records.items) (chain_of last.chain) last.differs r) (sym c.records.invariant.fits)
+    (subst (λ (xs : List Committed). Replays rule [] (cs ++ xs) (chain_of last.chain) last.differs None) (sym all) (c.records.invariant.replays cs h))
