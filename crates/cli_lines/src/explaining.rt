@@ -8,7 +8,7 @@ ghost use Rattle.cli_lines.specs.Told.{IsHeld};
 
 use crate::failure::Failure;
 use crate::files::{Access, FileFault, Files, read_all, read_at_most};
-use crate::meanings::{failure_words, meaning};
+use crate::meanings::{failure_words, number_words};
 use std::alloc::{AllocError, Global};
 use std::fmt::{self, Display, Formatter, Write};
 
@@ -90,7 +90,7 @@ pub fn explain_numbered<F: Files>(
 pub fn explain_number<F: Files>(alloc: Global, files: &mut F, place: &Location<'_>, number: u16)
     ensures kept { F.bytes files.new ≡ F.bytes files.old }
 {
-    explain_numbered(alloc, files, place, meaning(number), number);
+    explain(alloc, files, place, number_words(alloc, number));
 }
 
 /// Says why the line at a place is a bad one.

@@ -39,7 +39,7 @@ fn first_that_needs<'a>(
 
 /// Whether a VALID transaction of the block is an upgrade to a definition whose module is not at
 /// hand.
-fn block_needs_module(book: &Book, committed: &CommittedBlock) -> bool
+pub fn block_needs_module(book: &Book, committed: &CommittedBlock) -> bool
     ensures { result ≡ block_needs_module book.now committed.now }
 {
     need_module(
@@ -85,9 +85,17 @@ pub fn explain_missing<F: Files>(
     ensures kept { F.bytes files.new ≡ F.bytes files.old }
 {
     if let Some(block) = first_missing(book, blocks) {
-        let words = format!(in alloc;
-            "block {block} upgrades to a module that is not at hand; give it by --modules (406)"
-        );
-        explain(alloc, files, &Location::file(name), words);
+        explain_missing_in(alloc, files, name, block);
     }
+}
+
+/// Says of the file of this name that the block of this number upgrades to a module that is not at
+/// hand.
+pub fn explain_missing_in<F: Files>(alloc: Global, files: &mut F, name: &str, block: u32)
+    ensures kept { F.bytes files.new ≡ F.bytes files.old }
+{
+    let words = format!(in alloc;
+        "block {block} upgrades to a module that is not at hand; give it by --modules (406)"
+    );
+    explain(alloc, files, &Location::file(name), words);
 }

@@ -6,7 +6,7 @@ ghost use Rattle.cli_session.specs.Reading.{IsNext};
 
 use crate::reading::{Next, next_line};
 use cli_lines::{
-    Access, Failure, Files, Location, explain, explain_bad_line, explain_trouble, meaning,
+    Access, Failure, Files, Location, explain, explain_bad_line, explain_trouble, number_words,
     simulation_words,
 };
 use fabric_core::Reply;
@@ -152,8 +152,8 @@ fn refused_words(alloc: Global, line: &[u8], refused: Refused) -> Result<String,
             format!(in alloc; "{verb} is refused: {words}")
         }
         Refused::Numbered(number) => {
-            let meaning = meaning(number);
-            format!(in alloc; "{verb} is refused: {meaning} ({number})")
+            let words = number_words(alloc, number)?;
+            format!(in alloc; "{verb} is refused: {words}")
         }
     }
 }

@@ -72,7 +72,7 @@ pub work_task : (rows : List Row) (name : Text) → name ≢ codes "check" → n
 work_task rows name check digest public version (task.Check m profile) h = absurd (check (sym h.0))
 work_task rows name check digest public version (task.Digest m profile) h = absurd (digest (sym h.0))
 work_task rows name check digest public version (task.Public keys) h = absurd (public (sym h.0))
-work_task rows name check digest public version task.Version h = absurd (version (sym h.0))
+work_task rows name check digest public version (task.Version has_table) h = absurd (version (sym h.0))
 work_task rows name check digest public version (task.Work b w) h = (h.1.0, (h.0, h.1.1))
 
 -- and such a task is of that name

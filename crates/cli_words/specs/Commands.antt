@@ -20,7 +20,7 @@ abbrev pub command_name : Task → List ℕ
 command_name (task.Check m profile) = codes "check"
 command_name (task.Digest m profile) = codes "digest"
 command_name (task.Public keys) = codes "public"
-command_name task.Version = codes "version"
+command_name (task.Version has_table) = codes "version"
 command_name (task.Work begin w) = work_name w
 
 -- the first of these words is the name of the task's command

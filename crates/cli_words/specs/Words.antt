@@ -179,7 +179,7 @@ abbrev pub IsTaskBy : List Row → Task → Type 0
 IsTaskBy rows (task.Check m profile) = Has rows (codes "MODULE") m.now × IsProfileBy rows profile
 IsTaskBy rows (task.Digest m profile) = Has rows (codes "MODULE") m.now × IsProfileBy rows profile
 IsTaskBy rows (task.Public keys) = Has rows (codes "KEYS") keys.now
-IsTaskBy rows task.Version = Unit {0}
+IsTaskBy rows (task.Version has_table) = has_table ≡ is_given rows (codes "table")
 IsTaskBy rows (task.Work b w) = IsBeginningBy rows b × IsWorkBy rows w
 
 -- the same by the name of its command

@@ -178,9 +178,10 @@ prints the public key of each line of the key file KEYS, in hex",
     row! {
         name: "version",
         words: &[],
-        options: &[],
+        options: &[("table", "")],
         does: "\
 prints the numbers of this program, of the lines that it speaks, of the ledger's rules and
-of the bytes of stores, as one JSON object",
+of the bytes of stores, as one JSON object; with --table another one, of what each number
+and flag stands for, of limits and of names",
     },
 ];

@@ -33,8 +33,11 @@ pub enum Task<'a> {
     Public {
         keys: &'a str,
     },
-    /// Tell the numbers of the program, its lines, its rules and its stores.
-    Version,
+    /// Tell the numbers of the program, its lines, its rules and its stores, or the table of what
+    /// its words stand for.
+    Version {
+        has_table: bool,
+    },
     /// Do this with the chaincodes, organisations and peers of a genesis.
     Work {
         begin: Beginning<'a>,
@@ -190,7 +193,9 @@ fn task_of<'a>(alloc: Global, name: &str, command: &ArgMatches<'a>) -> Result<Ta
         "check" => check(command),
         "digest" => digest(command),
         "public" => public(command),
-        "version" => Ok(Task::Version),
+        "version" => Ok(Task::Version {
+            has_table: flag(command, "table"),
+        }),
         name => of_genesis(alloc, name, command),
     }
 }

@@ -52,7 +52,7 @@ comes_kept : (task : Task) (k : KnownFiles) (t u : Told) (r : Answer) → r ≡ 
 comes_kept (task.Check m profile) k t u r is h = answers_kept (Checks profile (k.before m.now)) t u r is h.0
 comes_kept (task.Digest m profile) k t u r is h = answers_kept (Digests profile (k.before m.now)) t u r is h.0
 comes_kept (task.Public keys) k t u r is h = answers_kept (Publishes (k.before keys.now)) t u r is h.0
-comes_kept task.Version k t u r is h = answers_kept (Versions) t u r is h.0
+comes_kept (task.Version has_table) k t u r is h = answers_kept (Versions has_table) t u r is h.0
 comes_kept (task.Work b w) k t u r is (inl opened) = works_kept opened.0 w k t u r is opened.2
 comes_kept (task.Work b w) k t u r is (inr refused) = ap (λ (v : Told). v.failed) refused.3
 

@@ -98,5 +98,5 @@ abbrev pub Comes : Task → KnownFiles → (before after : Told) → Result (Uni
 Comes (task.Check m profile) k before after answer = DoesAll (Checks profile (k.before m.now)) before after answer
 Comes (task.Digest m profile) k before after answer = DoesAll (Digests profile (k.before m.now)) before after answer
 Comes (task.Public keys) k before after answer = DoesAll (Publishes (k.before keys.now)) before after answer
-Comes task.Version k before after answer = DoesAll Versions before after answer
+Comes (task.Version has_table) k before after answer = DoesAll (Versions has_table) before after answer
 Comes (task.Work b w) k before after answer = WithGenesis k b (λ log. Works log w k) before after answer

@@ -241,7 +241,7 @@ fn do_task<R: Threads + Wait + Sync + Send + Copy + 'static, F: Files, W: Write>
         Task::Check { module, profile } => check(alloc, files, module, *profile, out),
         Task::Digest { module, profile } => digest(alloc, files, module, *profile, out),
         Task::Public { keys } => public(alloc, files, keys, out),
-        Task::Version => version(alloc, out),
+        Task::Version { has_table } => version(alloc, *has_table, out),
         Task::Work { begin, work } => with_genesis(machine, files, begin, work, out),
     }
 }

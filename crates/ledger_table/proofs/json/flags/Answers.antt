@@ -1,0 +1,11 @@
+use Rattle.std.proofs.Common.{◌≡◌, List, IfOk, subst}
+use Rattle.serde_json.specs.Data.{Data, array}
+use Rattle.serde_json.specs.View.{items_of, view}
+use Rattle.ledger_table.specs.Table.{all_flags, flag_json, flag_row}
+use Rattle.ledger_table.proofs.Rows.{as_table}
+use Rattle.ledger_table.proofs.json.flags.Goals as goal
+
+pub returns : goal.returns
+returns c =
+    subst (λ (ds : List Data). IfOk c.list.result (λ v. view v ≡ array (items_of ds)))
+    (as_table flag_json flag_row c.flag_rows.result.now all_flags c.flag_rows.ensures) c.list.ensures
