@@ -14,6 +14,8 @@
 
 /** Flags of a conflict and of a phantom, and the orderer's answers to a batch that has no legal order: these are tried again. */
 const CONFLICTS = [2, 3], ABORTED = [441, 442];
+/** The status of a node that can do nothing now: another one is asked. */
+const UNAVAILABLE = 503;
 /** How long to wait before the next node is asked, how long one may take at the least, and a stream be silent, in milliseconds. */
 const PAUSE = 200, LEAST = 500, SILENCE = 45_000;
 /** The URL of a node on this machine, which asks for no certificate. */
@@ -27,13 +29,20 @@ const isAborted = said => ABORTED.includes(said.refused);
 /** Whether a call that is not VALID may be so later, or by another nonce. */
 const mayBeTriedAgain = said => CONFLICTS.includes(said.flag) || isAborted(said) || "used_up_by" in said;
 /** Whether no other node is to be asked: one has refused, and not for now alone. */
-const isFinal = error => error instanceof NotValid && error.status !== 503;
+const isFinal = error => error instanceof NotValid && error.status !== UNAVAILABLE;
 /** Whether a node has not even been asked. */
 const isUnasked = error => ["ECONNREFUSED", "ENOTFOUND"].includes(error.cause?.code ?? error.cause?.cause?.code);
 /** Where calls are posted, so that a node answers before the time is up. */
 const transactions = until => {
   const left = Math.max(0, until - performance.now()) / 1000;
   return `/transactions?wait=${(left - Math.min(5, left / 4)).toFixed(3)}`;
+};
+/** Bytes in hex behind their length, which takes so many digits. */
+const sized = (hex, digits) => (hex.length / 2).toString(16).padStart(digits, "0") + hex;
+/** The id of the transaction that a call would be. */
+const idOf = async ({ chaincode, arg, nonce }) => {
+  const call = sized(hex(new TextEncoder().encode(chaincode)), 2) + sized(arg, 4) + nonce;
+  return hex(new Uint8Array(await crypto.subtle.digest("SHA-256", bytes(call))));
 };
 const pause = milliseconds => new Promise(resolve => setTimeout(resolve, milliseconds));
 
@@ -81,9 +90,10 @@ export class Client {
    */
   async submit(chaincode, args, { organisations, tries = 1, nonce } = {}) {
     const until = performance.now() + 1000 * this.seconds;
-    for (let left = tries - 1; ; left--) {
-      const call = callOf(chaincode, args, { organisations, nonce }), said = await this.outcome(call, until);
-      nonce = isAborted(said) ? call.nonce : undefined;
+    for (let left = tries - 1, isLeftOut = false; ; left--) {
+      const call = callOf(chaincode, args, { organisations, nonce }), said = await this.outcome(call, until, isLeftOut);
+      isLeftOut = isAborted(said);
+      nonce = isLeftOut ? call.nonce : undefined;
       if (said.valid) return said;
       if (said.pending) throw new Pending(said);
       const isLast = left <= 0 || performance.now() > until;
@@ -93,21 +103,44 @@ export class Client {
 
   /**
    * What becomes of a call, whatever that is; `pending` where its time is up. Who asks again for the same waits for it. Where nodes could
-   * do nothing up to the end (503), or one refuses behind one that gave no answer, it ends by `NoAnswer`: the call may have been put before.
+   * do nothing up to the end (503), or one refuses behind one that gave no answer, it ends by `NoAnswer`: the call may have been put before,
+   * as it may where `mayBePut` says so.
    */
-  async outcome(call, until = performance.now() + 1000 * this.seconds) {
-    for (let mayBePut = false; ; mayBePut = true) {
-      const isCertain = error => error instanceof NoAnswer || isFinal(error) && !mayBePut && !error.mayBeDone;
-      const said = await this.ask("POST", transactions(until), call, [], until)
-        .catch(error => { throw isCertain(error) ? error : new NoAnswer(this.nodes, error); });
+  async outcome(call, until = performance.now() + 1000 * this.seconds, mayBePut = false) {
+    for (; ; mayBePut = true) {
+      const { said } = await this.#put(call, until, mayBePut);
       if (!said.pending || until - performance.now() < LEAST) return said;
     }
   }
 
-  /** Has several calls committed by one request, each made by `callOf`: the answer to each, in order. They must not conflict. */
+  /**
+   * Has several calls committed by one request, each made by `callOf`: the answer to each, in order. With `pending` it has an `id`, for
+   * `status`: the call may still come into a block. Where no node answers it ends as `outcome`. The calls must not conflict.
+   */
   async submitAll(calls) {
-    const until = performance.now() + 1000 * this.seconds, { answers } = await this.ask("POST", transactions(until), { calls }, [], until);
-    return Promise.all(answers.map((said, at) => said.pending && performance.now() < until ? this.outcome(calls[at], until) : said));
+    const until = performance.now() + 1000 * this.seconds, { said, mayBeDone } = await this.#put({ calls }, until, false);
+    return Promise.all(said.answers.map((it, at) => this.#told(calls[at], it, until, mayBeDone)));
+  }
+
+  /** What a node answers to a call, or to several, and whether one that was asked before may have put it. */
+  #put(body, until, mayBePut) {
+    const isCertain = error => error instanceof NoAnswer || isFinal(error) && !mayBePut && !error.mayBeDone;
+    return this.#asked("POST", transactions(until), body, [], until)
+      .catch(error => { throw isCertain(error) ? error : new NoAnswer(this.nodes, error); });
+  }
+
+  /** What is told of one of several calls, of which a node has said this: `pending` where it may be in the log, whoever refuses. */
+  async #told(call, said, until, mayBeDone) {
+    const isOpen = said.pending || said.status === UNAVAILABLE;
+    try {
+      if (isOpen && performance.now() < until) return await this.outcome(call, until, true);
+    } catch (error) {
+      if (!(error instanceof NoAnswer)) throw error;
+      said = { why: error.message };
+    }
+    // A refusal has no id.
+    const isKnown = "id" in said || !(isOpen || mayBeDone);
+    return isKnown ? said : { id: await idOf(call), pending: true, why: said.why };
   }
 
   /** The bytes of the result of a call that changes nothing, on the state that the node has. */
@@ -143,7 +176,7 @@ export class Client {
 
   /** Whether a node is well: `ok`, and `wrong` and `warnings`, lists of sentences. */
   health() {
-    return this.ask("GET", "/healthz", undefined, [503]);
+    return this.ask("GET", "/healthz", undefined, [UNAVAILABLE]);
   }
 
   /**
@@ -172,13 +205,18 @@ export class Client {
 
   /** What a node answers. The next one is asked where one gives no answer, or cannot do it now (503). */
   async ask(method, path, body, accept = [], until = performance.now() + 1000 * this.seconds) {
+    return (await this.#asked(method, path, body, accept, until)).said;
+  }
+
+  /** The same, and whether a node that was asked before may have done it. */
+  async #asked(method, path, body, accept, until) {
     for (let mayBeDone = false; ;) {
       let error;
       try {
         const answer = await this.fetch(this.node + path, { method, headers: { "Content-Type": "application/json" },
           body: body && JSON.stringify(body), signal: AbortSignal.timeout(Math.max(LEAST, Math.ceil(until - performance.now()))) });
         const said = await answer.json();
-        if (answer.status < 400 || accept.includes(answer.status)) return said;
+        if (answer.status < 400 || accept.includes(answer.status)) return { said, mayBeDone };
         error = new NotValid(answer.status, said);
       } catch (failure) {
         error = new NoAnswer(this.nodes, failure);

@@ -34,6 +34,8 @@ MOST_CALLERS, LOOK = 256, 1.0
 UNREADABLE = (ValueError, TypeError, LookupError, x509.InvalidVersion)
 # What is counted where the caller has gone before it was answered.
 GONE = 499
+# The status for a body that does not say its length.
+CHUNKED = 411
 
 
 def dumps(said: object) -> str:
@@ -115,7 +117,9 @@ class Access:
         """Whose certificate it is, where the organisation that it names has signed it; on one machine who it says it is."""
         if self.config.is_local:
             return request.headers.get(CALLER_HEADER, f"{self.config.organisation}/dev")
-        return self.name_of(request.headers.get(CERTIFICATE_HEADER, ""))
+        found: list[str] = request.headers.getall(CERTIFICATE_HEADER, [])
+        # The proxy sends one. aiohttp 3.8 takes what follows a body in chunks for headers, also of the connection's next request.
+        return self.name_of(found[0]) if len(found) == 1 else None
 
     def _name_of(self, certificate: str) -> str | None:
         """The caller that a certificate names, which is DER in base64. It has to be signed by that organisation's authority itself:
@@ -212,12 +216,18 @@ class Access:
         self.going[task] = request
         try:
             check(request.raw_path.isascii(), "a path has no byte above 7F: write it as %XX")
+            if "Transfer-Encoding" in request.headers:
+                raise Refused(CHUNKED, {"why": "a body says its length by Content-Length, and is not in chunks"})
             response = await handler(request)
             status = response.status
             return response
         except (Refused, web.HTTPException, TooLong, LogError, FilterEnded) as error:
             status, said = refusal_of(error)
-            return answer(said, status)
+            refusal = answer(said, status)
+            if status == CHUNKED:
+                # No request of this connection follows.
+                refusal.force_close()
+            return refusal
         except asyncio.CancelledError:
             status = GONE
             raise

@@ -9,14 +9,14 @@ import json
 import secrets
 import time
 from collections.abc import Callable, Coroutine
-from typing import Any
+from typing import Any, NamedTuple
 
 from .config import Config
 from .entries import ENTRY_CHARACTERS, ENTRY_LINES, Entry, Lines, Log, LogError
 from .filters import FilterEnded
 from .journal import Quota
 from .origins import Origins
-from .pace import EACH, Pace, pace_of_bytes
+from .pace import EACH, ENTRIES_APART, Pace, apart, pace_of_bytes
 from .peer import Peer
 from .proposals import Refused
 from .tags import Key, Keys
@@ -39,8 +39,7 @@ Unput = tuple[str, str, asyncio.Future[None]]
 NO_SHARE = "this organisation has brought about its share of the chain's blocks: a call may be put by another one's node"
 
 
-@dataclasses.dataclass(frozen=True)
-class Awaited:
+class Awaited(NamedTuple):
     """The block that comes next: its number, how many envelopes wait for it, and since when this organisation's do, by a clock that
     never goes back."""
     number: int = 1
@@ -81,6 +80,7 @@ class Chain:
         self.revision = self.entries = self.given = self.read = 0
         # How often entries are put, and how many bytes of all callers and of each: a file bears any number.
         self.pace, self.space = (Pace(0.0), Pace(0.0)) if config.is_local else (Pace(EACH), pace_of_bytes())
+        self.apart = apart(0.0 if config.is_local else ENTRIES_APART)
         self.spaces: collections.defaultdict[str, Pace] = collections.defaultdict(lambda: Pace(0.0) if config.is_local else pace_of_bytes(2))
         self.awaited, self.asking = Awaited(), Asking()
         # Numbers of committed blocks whose hashes are to be told.
@@ -340,6 +340,7 @@ class Chain:
     async def put_envelopes(self) -> None:
         while True:
             await self.put_wanted.wait()
+            await self.apart.turn()
             await self.pace.turn()
             await asyncio.sleep(self.space.wait())
             batch = self._next_entry()

@@ -15,7 +15,9 @@
 A call is one transaction, by its nonce, however often nodes are asked for it: where one gives no answer the next one is asked
 for the same. What fails is told by one of the exceptions of `Failed`, in a sentence.
 """
+import functools
 import http.client
+import io
 import json
 import os
 import secrets
@@ -24,7 +26,7 @@ import ssl
 import threading
 import time
 from collections.abc import Iterable, Iterator
-from typing import TypeVar
+from typing import Any, TypeVar
 from urllib.parse import quote, urlencode, urlsplit
 
 from .fields import local_url, url
@@ -32,10 +34,14 @@ from .wire import Object, id_of
 
 # What is tried again: flags of a conflict and of a phantom, and the orderer's answers to a batch that has no legal order.
 CONFLICTS, ABORTED = (2, 3), (441, 442)
+# The status of a node that can do nothing now: another one is asked.
+UNAVAILABLE = 503
 # How long to wait before the next node is asked, and how long one may take at the least, in seconds.
 PAUSE, LEAST = 0.2, 0.5
 # How long a stream of blocks may be silent: a node says something each 15 seconds.
 SILENCE = 45.0
+# The longest answer that is read, in bytes: that of a long history.
+LONGEST = 256 << 20
 # What there is where a node gives no answer, or none that a node gives.
 FAILURES = (OSError, http.client.HTTPException, ValueError)
 # Those behind which a node has not even been asked.
@@ -78,15 +84,44 @@ class Pending(Failed):
     """The time is up, and the call is in no block yet: it may still come into one. `said["id"]` is its id, for `status`."""
 
 
-class Link:
-    """A connection to the node whose turn it is."""
+class InTime(io.RawIOBase):
+    """What comes by a socket up to a time: its own timeout is for each piece alone."""
 
-    def __init__(self, client: "Client", turn: int = 0):
-        self.client, self.turn = client, turn
+    def __init__(self, sock: socket.socket, until: float):
+        self.sock, self.until, self.pieces = sock, until, sock.makefile("rb", buffering=0)
+
+    def readable(self) -> bool:
+        return True
+
+    def readinto(self, buffer: Any) -> int | None:
+        if (left := self.until - time.monotonic()) <= 0:
+            raise TimeoutError("timed out")
+        self.sock.settimeout(left)
+        return self.pieces.readinto(buffer)
+
+    def close(self) -> None:
+        self.pieces.close()
+        super().close()
+
+
+class Answered(http.client.HTTPResponse):
+    """An answer that comes up to a time."""
+
+    def __init__(self, until: float, sock: socket.socket, **more: Any):
+        super().__init__(sock, **more)
+        self.fp.close()
+        self.fp = io.BufferedReader(InTime(sock, until))
+
+
+class Link:
+    """A connection to the node whose turn it is, for requests or for a stream."""
+
+    def __init__(self, client: "Client", turn: int = 0, is_stream: bool = False):
+        self.client, self.turn, self.is_stream = client, turn, is_stream
         self.connection: http.client.HTTPConnection | None = None
 
     def begin(self, method: str, path: str, body: Object | None, seconds: float) -> http.client.HTTPResponse:
-        """Begins a request, whose answer may be silent for so many seconds."""
+        """Begins a request, whose answer comes within so many seconds, and that of a stream is silent for no more."""
         if self.connection is None:
             turn = self.turn % len(self.client.nodes)
             at = urlsplit(self.client.nodes[turn])
@@ -97,6 +132,8 @@ class Link:
         self.connection.timeout = seconds
         if self.connection.sock:
             self.connection.sock.settimeout(seconds)
+        if not self.is_stream:
+            setattr(self.connection, "response_class", functools.partial(Answered, time.monotonic() + seconds))
         self.connection.request(method, path, json.dumps(body) if body else None, {"Content-Type": "application/json"})
         return self.connection.getresponse()
 
@@ -138,22 +175,24 @@ class Client:
         again by its own nonce, as anybody may put it once more: so it counts once. `organisations` are to endorse, in place of those that the
         policy needs; a `nonce` of 32 hex digits names the transaction, where the caller has asked for it before. After the client's
         `seconds` it ends by `Pending`, where the call is in no block yet."""
-        until = time.monotonic() + self.seconds
+        until, is_left_out = time.monotonic() + self.seconds, False
         for left in range(max(tries, 1) - 1, -1, -1):
             call = call_of(chaincode, args, arg, organisations, nonce)
-            said = self.outcome(call, until)
-            nonce = call["nonce"] if said.get("refused") in ABORTED else None
+            said = self.outcome(call, until, is_left_out)
+            is_left_out = said.get("refused") in ABORTED
+            nonce = call["nonce"] if is_left_out else None
             if said.get("valid"):
                 return said
             if not left or time.monotonic() > until or not may_be_tried_again(said):
                 break
         raise failure({**said, "nonce": call["nonce"]})
 
-    def outcome(self, call: Object, until: float = 0.0) -> Object:
+    def outcome(self, call: Object, until: float = 0.0, may_be_put: bool = False) -> Object:
         """What becomes of a call or a change, whatever that is: an answer of the API with `valid`, `refused` or neither; with `pending`
         where its time is up, by the clock of `time.monotonic`, by default after the client's `seconds`. Where nodes could do nothing up to
-        the end (503), or one refuses behind one that gave no answer, it ends by `NoAnswer`: a call may have been put before."""
-        until, may_be_put = until or time.monotonic() + self.seconds, False
+        the end (503), or one refuses behind one that gave no answer, it ends by `NoAnswer`: a call may have been put before, as it may
+        where `may_be_put` says so."""
+        until = until or time.monotonic() + self.seconds
         try:
             while True:
                 # Who asks again for the same call waits for it, or has it put where it is not under way.
@@ -168,11 +207,29 @@ class Client:
 
     def submit_all(self, calls: Iterable[Object]) -> list[Object]:
         """Has several calls committed by one request, each of which `call_of` makes: the answer to each, in order, with `valid`,
-        or with `refused`, `flag` or `pending`, and `why`. Calls of one request are simulated side by side, so they must not conflict."""
+        or with `refused`, `flag` or `pending`, and `why`. With `pending` it has an `id`, for `status`: the call may still come into a
+        block. Where no node answers it ends as `outcome`, with the calls' `ids`. Calls of one request are simulated side by side, so they
+        must not conflict."""
         calls, until = list(calls), time.monotonic() + self.seconds
-        answers = self._ask(dict, "POST", self._transactions(until), {"calls": calls}, (), until)["answers"]
-        return [self.outcome(call, until) if said.get("pending") and time.monotonic() < until else said
-                for call, said in zip(calls, answers)]
+        try:
+            said, may_be_done = self._asked(dict, "POST", self._transactions(until), {"calls": calls}, (), until)
+        except (NoAnswer, Refused) as error:
+            if is_final(error) and not error.may_be_done:
+                raise
+            raise NoAnswer(str(error), {"ids": [id_of(it) for it in calls]}) from None
+        return [self._told(call, it, until, may_be_done) for call, it in zip(calls, said["answers"])]
+
+    def _told(self, call: Object, said: Object, until: float, may_be_done: bool) -> Object:
+        """What is told of one of several calls, of which a node has said this: `pending` where it may be in the log, whoever refuses."""
+        is_open = said.get("pending") or said.get("status") == UNAVAILABLE
+        try:
+            if is_open and time.monotonic() < until:
+                return self.outcome(call, until, may_be_put=True)
+        except NoAnswer as error:
+            said = {"why": str(error)}
+        # A refusal has no id.
+        is_known = "id" in said or not (is_open or may_be_done)
+        return said if is_known else {"id": id_of(call), "pending": True, "why": said["why"]}
 
     def evaluate(self, chaincode: str, *args: str, arg: bytes | None = None) -> bytes:
         """The result of a call that changes nothing, on the state that the node has."""
@@ -236,12 +293,12 @@ class Client:
 
     def health(self) -> Object:
         """Whether a node is well: `ok`, and `wrong` and `warnings`, lists of sentences."""
-        return self.ask("GET", "/healthz", accept=(503,))
+        return self.ask("GET", "/healthz", accept=(UNAVAILABLE,))
 
     def blocks(self, first: int | None = None) -> Iterator[Object]:
         """Blocks from a number on, by default those that are still to come, for ever. Where a node ends the next one goes on; one
         that refuses ends it by `Refused`, and `NoAnswer` does where no node has answered for `seconds`."""
-        link, until = Link(self, self._link().turn), 0.0
+        link, until = Link(self, self._link().turn, is_stream=True), 0.0
         while True:
             try:
                 answer = link.begin("GET", "/events" + ("" if first is None else f"?from={first}"), None, SILENCE)
@@ -264,12 +321,17 @@ class Client:
         return self._ask(dict, method, path, body, accept)
 
     def _ask(self, kind: type[Kind], method: str, path: str, body: Object | None, accept: tuple[int, ...], until: float = 0.0) -> Kind:
+        return self._asked(kind, method, path, body, accept, until)[0]
+
+    def _asked(self, kind: type[Kind], method: str, path: str, body: Object | None, accept: tuple[int, ...],
+               until: float = 0.0) -> tuple[Kind, bool]:
+        """What a node answers, and whether one that was asked before may have done it."""
         link, until, may_be_done = self._link(), until or time.monotonic() + self.seconds, False
         while True:
             try:
                 answer = link.begin(method, path, body, max(LEAST, until - time.monotonic()))
                 if answer.status < 400 or answer.status in accept:
-                    return of_kind(kind, json.loads(answer.read()))
+                    return of_kind(kind, said_by(answer)), may_be_done
                 why: Failed = refusal(answer)
                 why.may_be_done = may_be_done
                 if is_final(why):
@@ -339,9 +401,17 @@ def of_kind(kind: type[Kind], said: object) -> Kind:
     return said
 
 
+def said_by(answer: http.client.HTTPResponse) -> object:
+    """The JSON value of an answer."""
+    data = answer.read(LONGEST + 1)
+    if len(data) > LONGEST:
+        raise ValueError(f"its answer has more than {LONGEST >> 20} MiB")
+    return json.loads(data)
+
+
 def refusal(answer: http.client.HTTPResponse) -> Refused:
     """What a node, or who answers in its place, refuses by."""
-    said = json.loads(answer.read())
+    said = said_by(answer)
     return Refused(answer.status, said if isinstance(said, dict) else {})
 
 
@@ -352,7 +422,7 @@ def may_be_tried_again(said: Object) -> bool:
 
 def is_final(why: Failed) -> bool:
     """Whether no other node is to be asked: one has refused, and not for now alone."""
-    return isinstance(why, Refused) and why.status != 503
+    return isinstance(why, Refused) and why.status != UNAVAILABLE
 
 
 def failure(said: Object) -> Failed:

@@ -13,6 +13,7 @@ from .entries import Lines, Log, LogError
 from .etcd import EtcdLog
 from .fields import LOCAL_URL, OF_ORGANISATIONS, ORGANISATION, SOCKET, TABLES, Field, is_loopback, place
 from .filed import FileLog
+from .guard import Context, Guarded
 from .ticks import LAST_BLOCKS, Ticks
 
 # Files that need not be there.
@@ -130,35 +131,35 @@ class Config:
 
     def authority_certificates(self) -> dict[str, set[bytes]]:
         """The certificates of each organisation's authority."""
-        tls = {it: self._trusting(ssl.Purpose.CLIENT_AUTH, [file]) for it, file in self.authorities.items()}
+        tls = {it: self._trusting([file]) for it, file in self.authorities.items()}
         return {it: set(tls[it].get_ca_certs(binary_form=True)) for it in tls}
 
-    def etcd_tls(self) -> ssl.SSLContext:
+    def etcd_tls(self) -> Context:
         """For etcd: the password is told to its members alone, never to who has a certificate of clients and nodes."""
-        tls = self._trusting(ssl.Purpose.SERVER_AUTH, [self.etcd.authorities])
+        tls = self._trusting([self.etcd.authorities])
         tls.load_cert_chain(self.etcd.certificate, self.etcd.key)
         return tls
 
-    def node_tls(self, organisation: str) -> ssl.SSLContext | None:
+    def node_tls(self, organisation: str) -> Context | None:
         """For the node of an organisation, which no other one's authority can speak for, and no other certificate of its own. None on
         one machine."""
         if self.is_local:
             return None
-        tls = self._trusting(ssl.Purpose.SERVER_AUTH, [self.authorities[organisation]])
+        tls = self._trusting([self.authorities[organisation]])
         tls.sslobject_class = OfNode
         tls.load_cert_chain(self.tls.certificate, self.tls.key)
         return tls
 
-    def _trusting(self, purpose: ssl.Purpose, files: Iterable[str]) -> ssl.SSLContext:
+    def _trusting(self, files: Iterable[str]) -> Context:
         """By TLS 1.3 and one curve: a server could choose a group by which a handshake takes the loop a second."""
-        certificates = "\n".join(pathlib.Path(it).read_text(encoding="ascii") for it in files)
-        tls = ssl.create_default_context(purpose, cadata=certificates)
+        tls = Context(ssl.PROTOCOL_TLS_CLIENT)
+        tls.load_verify_locations(cadata="\n".join(pathlib.Path(it).read_text(encoding="ascii") for it in files))
         tls.minimum_version = ssl.TLSVersion.TLSv1_3
         tls.set_ecdh_curve("prime256v1")
         return tls
 
 
-class OfNode(ssl.SSLObject):
+class OfNode(Guarded):
     """A connection to who has to be a node by its certificate."""
 
     def do_handshake(self) -> None:

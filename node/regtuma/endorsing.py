@@ -13,13 +13,13 @@ from .config import Config
 from .entries import LogError
 from .filters import Asked, FilterEnded
 from .load import size_of
+from .table import MEANINGS
 from .tags import Key
-from .waiting import together
+from .waiting import each
 from .wire import Object, id_of
 
 # What is answered where the organisation has no place in the ledger, as it may have later.
-NO_MEMBER, OLD_SEED = ("the organisation is no member: not yet, or no more",
-                       "the key file has not the seed of the key by which the organisation stands")
+NO_MEMBER, OLD_SEED = "the organisation is no member: not yet, or no more", MEANINGS[808]
 NO_PLACE = {"refused 806": NO_MEMBER, "refused 808": OLD_SEED}
 # For how long a change is agreed to.
 AGREED_SECONDS = 7 * 86400.0
@@ -169,9 +169,13 @@ class Endorsing:
             said = await self.answer(asker, proposal)
             take(size_of(said))
             return said
+        await self.come_up(height)
+        return await each(proposals, OF_ASKER, counted)
+
+    async def come_up(self, height: int) -> None:
+        """Waits until the store has so many blocks, for a second at most."""
         if self.chain.height < height:
             await self.chain.at_least(height, 1.0)
-        return await together(counted(it) for it in proposals)
 
     async def answer(self, asker: str, proposal: Object) -> Object:
         """The answer to a proposal, once it is the asker's turn: why it is denied, or what the peer says."""

@@ -12,6 +12,7 @@ import re
 from collections.abc import AsyncIterator, Iterator
 from typing import Protocol
 
+from .table import MOST
 from .ticks import LAST_BLOCKS, SHARE_OF
 
 # How long it may take to put an entry, in seconds.
@@ -37,8 +38,6 @@ LONGEST_SEEN = len("seen ") + 33 + 11 + 65 + 128
 LONG = 65536
 # Whose the blocks of a refill are.
 NOBODY = b""
-# The most envelopes that any ledger's batch may have.
-MOST_COUNT = 512
 
 
 class LogError(Exception):
@@ -99,7 +98,7 @@ class Shares:
         # A batch has at most so many envelopes, and where it has several so many bytes. Costs are in parts of a block.
         self.count, self.preferred, self.block = count, preferred, count * preferred
         # What an entry costs that counts for nothing.
-        self.least = math.ceil(self.block / MOST_COUNT)
+        self.least = math.ceil(self.block / MOST["block_transactions"])
         self.paid: collections.Counter[bytes] = collections.Counter()
         self.total = 0
 

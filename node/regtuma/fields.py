@@ -6,10 +6,11 @@ import re
 from collections.abc import Callable
 from urllib.parse import urlsplit
 
+from .table import NAMES
 from .ticks import LAST_BLOCK
 
 RIGHTS = ("read", "observe", "evaluate", "submit", "endorse", "agree")
-ORGANISATION = re.compile("[A-Za-z0-9_]{1,32}")
+ORGANISATION = NAMES["organisation"]
 CALLER = re.compile(r"[A-Za-z0-9_*]{1,32}/[A-Za-z0-9_.*@-]{1,64}")
 # What somebody says of a block, that it has another one; or all that an organisation says so.
 FORK = re.compile(r"[A-Za-z0-9_]{1,32}( [1-9][0-9]{0,9})?")

@@ -7,15 +7,16 @@ import weakref
 from collections.abc import Iterator
 
 from . import numbers
+from .access import refusal_of
 from .chain import FULL, NO_SHARE, Chain
 from .config import Config
 from .endorsing import Endorsing
 from .entries import LogError
-from .filters import FilterEnded
+from .filters import FilterEnded, TooLong
 from .links import Link
 from .load import Held
 from .proposals import Refused, call_of, check, checked, organisations_of
-from .waiting import together
+from .waiting import beside
 from .wire import Object, envelope, id_of, proposal_of
 
 TOO_LARGE = 421
@@ -64,14 +65,13 @@ class Gateway:
         return {**answer, "height": height}
 
     async def submit_all(self, caller: str, calls: list[Object], patience: float) -> list[Object]:
-        """The same of several calls, each answered as if it were alone."""
+        """The same of several calls, each answered as if it were alone, where it is refused with the status."""
         async def one(body: Object) -> Object:
             try:
                 return await self.submit(caller, body, patience)
-            except Refused as refused:
-                return refused.said
-            except LogError as error:
-                return {"why": str(error)}
+            except (Refused, TooLong, LogError) as error:
+                status, said = refusal_of(error)
+                return {"status": status, **said}
         answers: list[Object] = await asyncio.gather(*(one(it) for it in calls))
         return answers
 
@@ -240,9 +240,10 @@ class Gateway:
     async def said(self, asked: list[str], held: Held, proposal: Object, height: int) -> dict[str, Object]:
         """What these answer to a proposal, and this organisation too, with whose execution theirs are compared."""
         own = [self.config.organisation] if "chaincode" in proposal and not self.endorsing.out_of_place else []
-        everybody = list(dict.fromkeys([*asked, *own]))
-        answers = await together(self.counted(it, held, proposal, height) for it in everybody)
-        return {it: answer for it, answer in zip(everybody, answers) if answer is not None}
+        # This organisation comes first, if it is asked.
+        everybody = sorted(dict.fromkeys([*asked, *own]), key=lambda it: it != self.config.organisation)
+        first, *others = (self.counted(it, held, proposal, height) for it in everybody)
+        return {it: answer for it, answer in zip(everybody, await beside(first, others)) if answer is not None}
 
     async def counted(self, organisation: str, held: Held, proposal: Object, height: int) -> Object | None:
         """What an organisation answers, which is held from then on; None where its node gives no answer."""
@@ -307,7 +308,8 @@ class Gateway:
         if (chaincode, up) not in self.chosen:
             self.chosen[chaincode, up] = asyncio.ensure_future(self.fewest(chaincode, list(up)))
         try:
-            return await asyncio.shield(self.chosen[chaincode, up])
+            chosen = self.chosen[chaincode, up]
+            return chosen.result() if chosen.done() else await asyncio.shield(chosen)
         except Refused as too_few:
             raise next(iter(asking.refusals.values()), too_few) from None
 
@@ -338,8 +340,8 @@ class Gateway:
     async def own(self, caller: str, proposal: Object, height: int) -> Object | None:
         """What this organisation answers; None where the peer or the approver has ended, of which the node tells where it ends for it."""
         try:
-            answer, = await self.endorsing.answers(caller, [proposal], height)
-            return answer
+            await self.endorsing.come_up(height)
+            return await self.endorsing.answer(caller, proposal)
         except FilterEnded:
             return None
 

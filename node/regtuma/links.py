@@ -8,7 +8,9 @@ import aiohttp
 
 from .config import Config
 from .fields import CALLER_HEADER
+from .guard import Connector
 from .journal import Quota
+from .pace import REQUESTS_APART, apart
 from .proposals import is_hex, matches
 from .turns import Turns
 from .waiting import Answer, TooMuch, value_of, whole
@@ -35,7 +37,7 @@ class Batches:
     """Proposals that are asked together. What comes while requests are under way goes into the next one."""
 
     def __init__(self, requests: int):
-        self.requests, self.under_way = requests, 0
+        self.requests, self.under_way, self.apart = requests, 0, apart(REQUESTS_APART)
         self.waiting: Turns[Waiting] = Turns()
         self.works: set[asyncio.Task[None]] = set()
 
@@ -64,13 +66,14 @@ class Batches:
 
     async def _work(self) -> None:
         try:
-            # Those that ask in this very moment come along.
-            await asyncio.sleep(0)
             while self.waiting:
+                # Those that ask in this very moment come along.
+                await self.apart.turn()
                 batch = [self.waiting.take() for _ in range(min(self.most(), len(self.waiting)))]
                 if self.waiting:
                     self._begin()
-                await self._answer(batch)
+                if batch:
+                    await self._answer(batch)
         finally:
             self.under_way -= 1
             if self.waiting:
@@ -93,7 +96,7 @@ class Link(Batches):
     def __init__(self, organisation: str, config: Config, say: Callable[[str], None]):
         super().__init__(REQUESTS)
         self.organisation, self.url, self.quota = organisation, config.nodes[organisation], Quota(organisation, say)
-        connector = aiohttp.TCPConnector(ssl=config.node_tls(organisation), limit_per_host=8)
+        connector = Connector(config.node_tls(organisation), self.pass_over, limit_per_host=8)
         # Where there are no certificates, a node says who it is.
         headers = {CALLER_HEADER: f"{config.organisation}/node"} if config.is_local else {}
         self.http = aiohttp.ClientSession(connector=connector, headers=headers, cookie_jar=aiohttp.DummyCookieJar(),

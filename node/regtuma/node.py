@@ -177,6 +177,8 @@ def main(words: list[str]) -> int:
     if len(words) != 1:
         print(__doc__, file=sys.stderr)
         return 2
+    # What its unit loads beside OpenSSL is not for its children.
+    os.environ.pop("LD_PRELOAD", None)
     try:
         config = configuration.read(words[0])
         config.check_files()

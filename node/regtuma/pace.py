@@ -10,6 +10,9 @@ import time
 # An entry each so many seconds, and so many at once before that. In an hour these are 3,600 / 0.2 + 1,000 = 19,000, ticks and what was seen
 # counted: a door takes 20,000 of an organisation (door.cfg).
 EACH, BURST = 0.2, 1000
+# The least time from one entry with calls to the next, and from one request to another node to the next. What comes meanwhile goes along:
+# an entry costs its node about a millisecond, and etcd and all readers some time too; a request costs its two nodes as much.
+ENTRIES_APART, REQUESTS_APART = 0.05, 0.02
 # So many bytes in a second, and so many at once before that. In an hour these are 178 MB, and 237 MB in base64, where a door takes 268 MB.
 # One caller has a half of both.
 BYTES, BYTES_AT_ONCE = 40_000, 32 << 20
@@ -34,6 +37,11 @@ class Pace:
         """Waits until one more may be put."""
         self.take()
         await asyncio.sleep(self.wait())
+
+
+def apart(seconds: float) -> Pace:
+    """One each so many seconds; who comes alone waits for nothing."""
+    return Pace(seconds, 1)
 
 
 def pace_of_bytes(part: int = 1) -> Pace:

@@ -3,14 +3,16 @@ import re
 import secrets
 
 from .fields import ORGANISATION
+from .table import MOST, NAMES
 from .wire import Object
 
-KINDS = {"chaincode": {"chaincode", "arg", "nonce"}, "upgrade": {"upgrade", "module", "profile", "fuel", "policy", "nonce"},
-         "members": {"members", "policy", "serial", "nonce"}}
-CHAINCODE = re.compile("[a-z0-9_-]{1,32}")
+# What the caller of a chaincode may say.
+OF_CALL = {"chaincode", "arg", "args", "nonce", "organisations"}
+CHAINCODE = NAMES["chaincode"]
 DIGITS, NONCE, DIGEST = (re.compile(f"[0-9A-Fa-f]{it}") for it in ("*", "{32}", "{64}"))
-POLICY = re.compile("[ -~]{1,1024}")
-MOST_ARG, MOST_KEY, MOST_FUEL, MOST_SERIAL, MOST_MEMBERS = 4096, 64, 10_000_000, 2**32 - 1, 16
+POLICY = re.compile("[ -~]{1,%d}" % MOST["policy_bytes"])
+MOST_ARG, MOST_KEY, MOST_FUEL, MOST_MEMBERS = (MOST[it] for it in ("value_bytes", "key_bytes", "fuel", "organisations"))
+MOST_SERIAL = 2**32 - 1
 PROFILES, CLOSED = (1, 2, 17, 18), 2
 
 
@@ -53,24 +55,30 @@ def objects(value: object, name: str, most: int) -> list[Object]:
 
 def call_of(body: Object) -> Object:
     """The proposal of a call: `arg` is hex, `args` are texts with a space between, and a nonce is made where none is given."""
-    given = {it: body[it] for it in body if it != "organisations"}
-    check(set(given) <= {"chaincode", "arg", "args", "nonce"} and not {"arg", "args"} <= set(given),
+    check(body.keys() <= OF_CALL and not {"arg", "args"} <= body.keys(),
           "a call has chaincode, arg (in hex) or args (a list of texts), and may have nonce and organisations")
-    args = given.get("args", [])
-    check(isinstance(args, list) and all(isinstance(it, str) for it in args), "args is a list of texts")
-    arg = given.get("arg", " ".join(args).encode("utf-8", "surrogatepass").hex())
-    proposal = {"chaincode": given.get("chaincode"), "arg": arg or "-", "nonce": given.get("nonce", secrets.token_hex(16))}
-    return checked(proposal)
+    arg = body["arg"] if "arg" in body else arg_of(body.get("args", []))
+    nonce = body["nonce"] if "nonce" in body else secrets.token_hex(16)
+    return checked({"chaincode": body.get("chaincode"), "arg": arg or "-", "nonce": nonce})
+
+
+def arg_of(args: object) -> str:
+    """The argument that is these texts with a space between, in hex."""
+    if not (isinstance(args, list) and all(isinstance(it, str) for it in args)):
+        raise refuse("args is a list of texts")
+    return " ".join(args).encode("utf-8", "surrogatepass").hex()
 
 
 def checked(proposal: Object) -> Object:
     """A proposal that has the form of one: a call, an upgrade or an amendment."""
-    kind = next((it for it in KINDS if it in proposal), "")
-    check(kind != "", "a proposal has chaincode, upgrade or members")
-    check(set(proposal) == KINDS[kind], f"a proposal with {kind} has exactly the fields {', '.join(sorted(KINDS[kind]))}")
-    check(matches(NONCE, proposal["nonce"]), "nonce is hex of 16 bytes")
-    {"chaincode": check_call, "upgrade": check_upgrade, "members": check_amendment}[kind](proposal)
-    return proposal
+    for kind, (fields, check_kind) in KINDS.items():
+        if kind in proposal:
+            if proposal.keys() != fields:
+                raise refuse(f"a proposal with {kind} has exactly the fields {', '.join(sorted(fields))}")
+            check(matches(NONCE, proposal["nonce"]), "nonce is hex of 16 bytes")
+            check_kind(proposal)
+            return proposal
+    raise refuse("a proposal has chaincode, upgrade or members")
 
 
 def check_call(it: Object) -> None:
@@ -94,6 +102,12 @@ def check_amendment(it: Object) -> None:
         check("public" not in member or matches(DIGEST, member["public"]), "public is a public key, hex of 32 bytes")
     check(matches(POLICY, it["policy"]), "policy is a text of 1 to 1,024 characters")
     check(whole(it["serial"], 0, MOST_SERIAL), "serial is a number from 0 on")
+
+
+# The fields of each kind of proposal, and what looks at them.
+KINDS = {"chaincode": ({"chaincode", "arg", "nonce"}, check_call),
+         "upgrade": ({"upgrade", "module", "profile", "fuel", "policy", "nonce"}, check_upgrade),
+         "members": ({"members", "policy", "serial", "nonce"}, check_amendment)}
 
 
 def described(proposal: Object, members: Object | None = None) -> str:

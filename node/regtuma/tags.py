@@ -2,6 +2,7 @@
 it counts is for the ledger's program to say."""
 import asyncio
 import dataclasses
+import functools
 import hashlib
 import hmac
 import json
@@ -15,11 +16,19 @@ from .wire import HMAC, SIGNATURE, Endorsement
 
 # What stands in front of all that is signed under rules 2, before the genesis file's SHA-256.
 BOUND = b"\xfftag "
+# So many public keys are kept as OpenSSL made them, which are more than stand at a time.
+MOST_KEYS = 64
 
 
 def front_of(genesis: bytes) -> bytes:
     """What stands in front of what organisations sign in the ledger of a genesis file: nothing under rules 1."""
     return BOUND + hashlib.sha256(genesis).digest() if json.loads(genesis).get("rules", 1) > 1 else b""
+
+
+@functools.lru_cache(MOST_KEYS)
+def made_of(public: bytes) -> Ed25519PublicKey:
+    """A public key as OpenSSL has it, which it makes once and not for each signature."""
+    return Ed25519PublicKey.from_public_bytes(public)
 
 
 @dataclasses.dataclass(frozen=True)
@@ -33,7 +42,7 @@ class Key:
         if self.shared:
             return hmac.compare_digest(tag, hmac.new(self.shared, payload, hashlib.sha256).digest())
         try:
-            Ed25519PublicKey.from_public_bytes(self.public).verify(tag, self.front + payload)
+            made_of(self.public).verify(tag, self.front + payload)
             return True
         except (InvalidSignature, ValueError):
             return False
@@ -57,6 +66,8 @@ class Keys:
 
     async def at(self, peer: Peer, height: int) -> dict[str, Key]:
         """The keys that stand now, where the store has so many blocks. Behind each block they are asked for once."""
+        if self.height >= height:
+            return self.standing
         async with self.asking:
             if self.height < height:
                 said, height = await peer.ask_for("members")

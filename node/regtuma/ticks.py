@@ -11,9 +11,11 @@ All is worked out of the clock and the log, so that the nodes of an organisation
 """
 import dataclasses
 
-# The greatest number that a block of any ledger can have, and the last block of a ledger by the number of its rules.
-LAST_BLOCK = 4_000_000_000
-LAST_BLOCKS = {1: 65_535, 2: LAST_BLOCK}
+from .table import MOST
+
+# The last block of a ledger by the number of its rules, and the greatest number that a block of any ledger can have.
+LAST_BLOCKS = {rules: MOST[f"last_block_of_rules_{rules}"] for rules in (1, 2)}
+LAST_BLOCK = LAST_BLOCKS[2]
 # One of so many blocks that are left is the others' by itself.
 SHARE_OF = 4
 DAY = 86400

@@ -1,13 +1,14 @@
 """Waiting for a limited time, and reading so much at most."""
 import asyncio
 import json
-from collections.abc import Coroutine, Iterable
+from collections.abc import Callable, Coroutine, Iterable, Sequence
 from http.cookies import SimpleCookie
 from typing import Any, TypeVar
 
 import aiohttp
 
 T = TypeVar("T")
+Item = TypeVar("Item")
 
 
 class TooMuch(ValueError):
@@ -52,6 +53,31 @@ async def together(doings: Iterable[Coroutine[Any, Any, T]]) -> list[T]:
     finally:
         for it in tasks:
             it.cancel()
+
+
+async def beside(here: Coroutine[Any, Any, T], others: Iterable[Coroutine[Any, Any, T]]) -> list[T]:
+    """The same, of which the first needs no task: one costs more than most of what is done in it. Where another one fails, that is
+    told once the first is done."""
+    tasks = [asyncio.ensure_future(it) for it in others]
+    for it in tasks:
+        # Where the first fails, nobody asks how these end.
+        it.add_done_callback(lambda done: done.cancelled() or done.exception())
+    try:
+        return [await here, *[await it for it in tasks]]
+    finally:
+        for it in tasks:
+            it.cancel()
+
+
+async def each(items: Sequence[Item], most: int, do: Callable[[Item], Coroutine[Any, Any, T]]) -> list[T]:
+    """What is done with each of these, so many at a time. Where one fails, the others end."""
+    done, left = dict[int, T](), iter(enumerate(items))
+
+    async def one_by_one() -> None:
+        for place, item in left:
+            done[place] = await do(item)
+    await together(one_by_one() for _ in range(min(most, len(items))))
+    return [done[place] for place in range(len(items))]
 
 
 async def whole(content: aiohttp.StreamReader, longest: int) -> bytes:

@@ -15,6 +15,7 @@ from cryptography import x509
 from cryptography.hazmat.primitives import hashes, serialization
 from cryptography.hazmat.primitives.asymmetric import ec
 from cryptography.x509.oid import NameOID
+from multidict import CIMultiDict
 from regtuma.access import Access
 from regtuma.config import Config
 from regtuma.fields import CERTIFICATE_HEADER
@@ -99,6 +100,13 @@ class Callers(unittest.TestCase):
             with self.subTest(name=name):
                 found = ssl.PEM_cert_to_DER_cert((self.room / f"{name}.pem").read_text())
                 self.assertEqual(self.named(base64.b64encode(found).decode()), caller)
+
+    def test_two_certificates_name_nobody(self):
+        """What followed a body in chunks comes as the first header of the connection's next request."""
+        alice, bob = (base64.b64encode(ssl.PEM_cert_to_DER_cert((self.room / f"{it}.pem").read_text())).decode() for it in ("alice", "bob"))
+        for first, second in ((alice, bob), (bob, alice), (alice, alice)):
+            headers = CIMultiDict([(CERTIFICATE_HEADER, first), (CERTIFICATE_HEADER.lower(), second)])
+            self.assertIsNone(self.access.caller(make_mocked_request("GET", "/", headers=headers)))
 
     def test_a_certificate_that_nobody_reads_names_nobody(self):
         """Of a version that has no extensions, which TLS takes all the same, or with a name that is no text."""

@@ -150,7 +150,7 @@ class Lost(Case):
             self.assertEqual(await self.get(path), told)
         call = {"chaincode": "assets", "args": ["x"], "nonce": "07" * 16}
         self.assertEqual(await self.post("/transactions", call), told)
-        self.assertEqual(await self.post("/transactions", {"calls": [call]}), (200, {"answers": [told[1]]}))
+        self.assertEqual(await self.post("/transactions", {"calls": [call]}), (200, {"answers": [{"status": 503, **told[1]}]}))
         self.assertEqual(await self.get("/height"), (200, {"height": 4}))
 
     async def test_a_stream_ends_and_the_block_is_asked_for_anew(self):
@@ -242,7 +242,7 @@ class Reads(Case):
             await asyncio.sleep(0.01)
         self.chain.resolve(id, {"id": id, "block": 5, "place": 0, "flag": 4, "result": ""})
         said = (await asked)[1]
-        self.assertEqual((said["valid"], said["why"]), (False, "the same transaction stands earlier in the chain"))
+        self.assertEqual((said["valid"], said["why"]), (False, "its id stands earlier in the chain"))
         self.assertEqual(self.chain.waiters, {})
 
     async def test_events(self):
@@ -418,9 +418,11 @@ class Calls(Case):
             yield b"x" * 900_000
             begun.append(1)
             await ready.wait()
+            yield b"x"
         with mock.patch.object(load, "BODIES", 4 << 20):
             more = {"headers": {"Content-Type": "application/json"}}
-            many = [asyncio.ensure_future(self.ask("POST", "/evaluate", data=pieces(), **more)) for _ in range(4)]
+            slow = {"headers": {"Content-Type": "application/json", "Content-Length": "900001"}}
+            many = [asyncio.ensure_future(self.ask("POST", "/evaluate", data=pieces(), **slow)) for _ in range(4)]
             while len(begun) < 4:
                 await asyncio.sleep(0.01)
             while self.api.access.load.bodies["Maker"] < 3_600_000:

@@ -315,7 +315,7 @@ class End(Case):
         with self.assertRaises(Refused) as raised:
             self.gateway.check_open()
         self.assertEqual((raised.exception.status, raised.exception.said),
-                         (422, {"refused": 422, "why": "the chain is full: the rules of the ledger allow no block more"}))
+                         (422, {"refused": 422, "why": "the chain is full: the rules of the ledger allow no further block"}))
 
     async def test_a_store_that_is_full_takes_none(self):
         self.chain.height = LAST_BLOCK
@@ -700,7 +700,7 @@ class Calls(Case):
     async def test_who_refuses_what_others_endorse(self):
         no_module = {"refused": "refused 406", "height": 3}
         self.answer(Maker=[ENDORSED], Carrier=[no_module])
-        self.assertEqual(await self.refusal(), (422, "Carrier does not endorse it: the module of the definition is not installed, or not at hand"))
+        self.assertEqual(await self.refusal(), (422, "Carrier does not endorse it: no module of the definition's digest and profile is installed or at hand"))
         self.assertEqual(len(self.asked), 2)
         self.answer(Maker=[ENDORSED] * 2, Carrier=[{**no_module, "height": 2}, ENDORSED])
         self.assertEqual(await self.gateway.endorsed(self.held(), CALL, None), "aa020101")
@@ -844,7 +844,10 @@ class Calls(Case):
     async def test_several_are_answered_each_by_itself(self):
         self.answer(Maker=[{"refused": "refused 404", "height": 3}], Carrier=[{"refused": "refused 404", "height": 3}])
         said = await self.gateway.submit_all("Maker/alice", [CALL, {"chaincode": 5}], 60.0)
-        self.assertEqual((said[0]["refused"], said[1]["why"].split()[0]), (404, "chaincode"))
+        self.assertEqual([(it["status"], it.get("refused"), it["why"].split()[0]) for it in said], [(422, 404, "the"), (400, None, "chaincode")])
+        self.answer(Maker=[ENDORSED], Carrier=[ENDORSED])
+        self.chain.put = mock.AsyncMock(side_effect=LogError("the log takes none"))
+        self.assertEqual(await self.gateway.submit_all("Maker/alice", [CALL], 60.0), [{"status": 503, "why": "the log takes none"}])
 
 
 if __name__ == "__main__":

@@ -284,12 +284,94 @@ class Clients(unittest.TestCase):
                     client.submit("assets", "x", nonce="0f" * 16)
                 self.assertEqual("id" in raised.exception.said, failure == NoAnswer)
 
+    def test_several_calls_may_be_in_the_log_where_a_node_was_cut_off(self):
+        """The next one refuses some, and what it knows of the others stands."""
+        client, calls = client_of("https://1:1", "https://2:1"), [clients.call_of("assets", "x") for _ in range(5)]
+        known = [{"id": "aa", "flag": 0, "valid": True, "block": 1}, {"id": "bb", "refused": 442, "why": "left out"}]
+        answers = json.dumps({"answers": [*known, {"refused": 404, "why": "no"}, {"status": 429, "why": "later"}, {"why": "refused"}]}).encode()
+        for first, is_known in [(ConnectionRefusedError("none"), True), (ConnectionResetError("gone"), False), (Answer(503, b"{}"), False)]:
+            begun = mock.patch.object(Link, "begin", side_effect=[first, Answer(200, answers)])
+            with self.subTest(first=first), begun, mock.patch.object(clients, "PAUSE", 0):
+                said = client.submit_all(calls)
+                self.assertEqual(said[:2], known)
+                self.assertEqual([(it.get("pending"), it["why"]) for it in said[2:]], [(None if is_known else True, it) for it in ("no", "later", "refused")])
+                self.assertEqual([it.get("id") for it in said[2:]], [None if is_known else clients.id_of(it) for it in calls[2:]])
+
+    def test_of_several_calls_each_is_told(self):
+        """One that is asked for alone loses no answer of the others, whatever becomes of it."""
+        client, calls, valid = client_of("https://1:1"), [clients.call_of("assets", "x") for _ in range(3)], {"id": "aa", "valid": True}
+        for first in ({"id": "bb", "pending": True, "why": "later"}, {"status": 503, "why": "no log"}):
+            answers = json.dumps({"answers": [valid, first, valid]}).encode()
+            for alone, why in [((429, b'{"why":"not now"}'), "not now"), ((422, b'{"refused":404,"why":"no"}'), "no"), ((503, b'{"why":"down"}'), "down"),
+                               ((200, b'{"id":"bb","valid":true}'), None)]:
+                client.seconds = 0.6
+                asked = itertools.chain([Answer(200, answers)], iter(lambda: Answer(*alone), None))
+                with self.subTest(first=first, alone=alone), mock.patch.object(Link, "begin", side_effect=asked), mock.patch.object(clients, "PAUSE", 0.05):
+                    said = client.submit_all(calls)
+                    self.assertEqual((said[0], said[2]), (valid, valid))
+                    told = {"id": clients.id_of(calls[1]), "pending": True, "why": why} if why else {"id": "bb", "valid": True}
+                    self.assertEqual(said[1], told)
+
+    def test_a_list_of_calls_may_be_in_the_log_where_no_node_answers_it(self):
+        client, calls = client_of("https://1:1", "https://2:1"), [clients.call_of("assets", "x") for _ in range(2)]
+        client.seconds = 0.3
+        for first, later, failure in [(ConnectionResetError("gone"), 503, NoAnswer), (ConnectionResetError("gone"), 429, NoAnswer),
+                                      (Answer(503, b"{}"), 403, NoAnswer), (ConnectionRefusedError("none"), 429, Refused)]:
+            asked = itertools.chain([first], iter(lambda: Answer(later, b'{"why":"not now"}'), None))
+            with self.subTest(first=first, later=later), mock.patch.object(Link, "begin", side_effect=asked), mock.patch.object(clients, "PAUSE", 0.05):
+                with self.assertRaisesRegex(failure, "^not now$") as raised:
+                    client.submit_all(calls)
+                self.assertEqual(raised.exception.said.get("ids"), [clients.id_of(it) for it in calls] if failure == NoAnswer else None)
+
+    def test_a_call_that_was_left_out_may_be_put_by_anybody(self):
+        """So what refuses it at its second ask says not that it is in no block."""
+        asked = [Answer(200, b'{"id":"ab","refused":442,"why":"left out"}'), Answer(429, b'{"why":"not now"}')]
+        with mock.patch.object(Link, "begin", side_effect=asked), self.assertRaisesRegex(NoAnswer, "^not now$") as raised:
+            client_of("https://1:1").submit("assets", "x", tries=2)
+        self.assertIn("id", raised.exception.said)
+
     def test_a_node_that_says_nothing_is_not_waited_for(self):
         with socket.create_server(("127.0.0.1", 0)) as silent:
             client = Client([f"http://127.0.0.1:{silent.getsockname()[1]}"], seconds=0.6)
-            for ask in (client.height, lambda: client.submit("assets", "x"), lambda: client.submit_all([{}])):
+            for ask in (client.height, lambda: client.submit("assets", "x"), lambda: client.submit_all([clients.call_of("assets", "x")])):
                 with self.assertRaisesRegex(NoAnswer, "^no node answers, of http://127.0.0.1:[0-9]+: timed out$"):
                     ask()
+
+    def serves(self, said: bytes, goes_on: bool = False) -> int:
+        """The port of a node that says this, and may go on by a byte now and then."""
+        at = self.enterContext(socket.create_server(("127.0.0.1", 0)))
+
+        def serve() -> None:
+            with contextlib.suppress(OSError):
+                while True:
+                    caller, _ = at.accept()
+                    with caller, contextlib.suppress(OSError):
+                        caller.recv(65536)
+                        caller.sendall(said)
+                        while goes_on:
+                            caller.sendall(b" ")
+                            time.sleep(0.1)
+        threading.Thread(target=serve, daemon=True).start()
+        return at.getsockname()[1]
+
+    def test_a_node_that_answers_byte_by_byte_is_not_waited_for(self):
+        """Neither for its headers, nor for its body; and the next call asks the next one."""
+        well = self.serves(b'HTTP/1.1 200 OK\r\nContent-Length: 12\r\n\r\n{"height":7}')
+        for begin in (b"HTTP/1.1 200 OK\r\nX:", b"HTTP/1.1 200 OK\r\nContent-Length: 1000\r\n\r\n"):
+            client, began = Client([f"http://127.0.0.1:{it}" for it in (self.serves(begin, goes_on=True), well)], seconds=1.0), time.monotonic()
+            with self.subTest(begin=begin), self.assertRaisesRegex(NoAnswer, ": timed out$"):
+                client.height()
+            self.assertLess(time.monotonic() - began, 10.0)
+            client.seconds = 20.0
+            self.assertEqual(client.height(), 7)
+
+    def test_an_answer_that_is_too_long_is_none(self):
+        answer = Answer(200, b'{"height":7}')
+        client = client_of("https://1:1")
+        client.seconds = 0.0
+        with mock.patch.object(clients, "LONGEST", 10), mock.patch.object(Link, "begin", return_value=answer):
+            with self.assertRaisesRegex(NoAnswer, ": its answer has more than 0 MiB$"):
+                client.height()
 
     def test_a_node_has_a_url(self):
         for it in ("10.0.0.1:7051", "http://10.0.0.1:7051", "https://10.0.0.1", "https://[::1", ""):
@@ -298,7 +380,7 @@ class Clients(unittest.TestCase):
 
     def test_a_call_is_made_once_at_least(self):
         client = client_of()
-        client.outcome = lambda call, _until: {"valid": True, "arg": call["arg"]}
+        client.outcome = lambda call, *_: {"valid": True, "arg": call["arg"]}
         self.assertEqual(client.submit("assets", "x", tries=0)["arg"], b"x".hex())
 
 
@@ -373,6 +455,52 @@ class InJavascript(unittest.TestCase):
               await busy.submit("assets", ["x"]).catch(error => console.log(error.name));
             }""")
         self.assertEqual(said, "NoAnswer\nNotValid\nNoAnswer\nNoAnswer\nNoAnswer\nNotValid\n")
+
+    def test_several_calls_may_be_in_the_log_where_a_node_was_cut_off(self):
+        said = self.said("""
+            const known = [{ id: "aa", flag: 0, valid: true, block: 1 }, { id: "bb", refused: 442, why: "left out" }];
+            const answers = [...known, { refused: 404, why: "no" }, { status: 429, why: "later" }, { why: "refused" }];
+            const fails = code => () => { throw { code }; };
+            for (const first of [fails("ECONNREFUSED"), fails("ECONNRESET"), () => new Response("{}", { status: 503 })]) {
+              let asked = 0;
+              const cut = new Client(["https://1:1"], async () => asked++ ? new Response(JSON.stringify({ answers })) : first());
+              const said = await cut.submitAll(answers.map(() => callOf("assets", "x", { nonce: "0f".repeat(16) })));
+              console.log(JSON.stringify(said.slice(0, 2)) === JSON.stringify(known), said.slice(2).map(it => it.pending), said[2].id);
+            }""")
+        id = clients.id_of({"chaincode": "assets", "arg": "78", "nonce": "0f" * 16})
+        pending = f"true [ true, true, true ] {id}\n"
+        self.assertEqual(said, f"true [ undefined, undefined, undefined ] undefined\n{pending}{pending}")
+
+    def test_of_several_calls_each_is_told(self):
+        said = self.said("""
+            const valid = { id: "aa", valid: true }, later = (status, said) => () => new Response(JSON.stringify(said), { status });
+            for (const first of [{ id: "bb", pending: true, why: "later" }, { status: 503, why: "no log" }])
+              for (const alone of [later(429, { why: "not now" }), later(422, { refused: 404, why: "no" }), later(200, { id: "bb", valid: true })]) {
+                let asked = 0;
+                const busy = new Client(["https://1:1"], async () => asked++ ? alone() : new Response(JSON.stringify({ answers: [valid, first, valid] })));
+                const [before, said, after] = await busy.submitAll([1, 2, 3].map(it => callOf("assets", String(it), { nonce: "0f".repeat(16) })));
+                console.log(before.valid && after.valid, said.valid ?? (said.pending && said.why), said.id);
+              }""")
+        id, dead = clients.id_of({"chaincode": "assets", "arg": "32", "nonce": "0f" * 16}), "no node answers, of https://1:1"
+        self.assertEqual(said, f"true {dead}: not now {id}\ntrue {dead}: no {id}\ntrue true bb\n" * 2)
+
+    def test_a_list_of_calls_may_be_in_the_log_where_no_node_answers_it(self):
+        said = self.said("""
+            const later = status => () => new Response('{"why":"not now"}', { status }), fails = code => () => { throw { code }; };
+            for (const [first, status] of [[fails("ECONNRESET"), 503], [fails("ECONNRESET"), 429], [later(503), 403], [fails("ECONNREFUSED"), 429]]) {
+              let asked = 0;
+              const busy = new Client(["https://1:1"], async () => (asked++ ? later(status) : first)(), { seconds: 0.6 });
+              await busy.submitAll([callOf("assets", "x")]).catch(error => console.log(error.name));
+            }""")
+        self.assertEqual(said, "NoAnswer\nNoAnswer\nNoAnswer\nNotValid\n")
+
+    def test_a_call_that_was_left_out_may_be_put_by_anybody(self):
+        said = self.said("""
+            let asked = 0;
+            const busy = new Client(["https://1:1"], async () =>
+              asked++ ? new Response('{"why":"not now"}', { status: 429 }) : new Response('{"id":"ab","refused":442,"why":"left out"}'));
+            await busy.submit("assets", ["x"], { tries: 2 }).catch(error => console.log(error.name));""")
+        self.assertEqual(said, "NoAnswer\n")
 
     def test_a_node_that_says_nothing_is_not_waited_for(self):
         with socket.create_server(("127.0.0.1", 0)) as silent:

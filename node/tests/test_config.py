@@ -85,7 +85,7 @@ class Handshakes(unittest.TestCase):
         folder = support.Folder()
         self.addCleanup(folder.close)
         made, said = folder.config(), ssl.MemoryBIO()
-        tls = made._trusting(ssl.Purpose.SERVER_AUTH, [made.authorities["Maker"]])
+        tls = made._trusting([made.authorities["Maker"]])
         with self.assertRaises(ssl.SSLWantReadError):
             tls.wrap_bio(ssl.MemoryBIO(), said, server_hostname="127.0.0.1").do_handshake()
         hello = said.read()

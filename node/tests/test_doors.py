@@ -18,6 +18,7 @@ import socket
 import ssl
 import subprocess
 import sys
+import tempfile
 import threading
 import time
 import unittest
@@ -44,6 +45,14 @@ MALFORMED = (b"GARBAGE\r\n\r\n", b"GET /state/\xff HTTP/1.1\r\nHost: x\r\n\r\n",
 JSON, SOCKET_KEY = "Content-Type: application/json", "Sec-WebSocket-Version: 13\r\nSec-WebSocket-Key: dGhlIHNhbXBsZSBub25jZQ=="
 # How the Carrier may spell its own name as a signer: to TLS all are one.
 SPELLINGS = {"upper": "CARRIER", "mixed": "cArrieR", "before": " Carrier", "behind": "Carrier  "}
+# A certificate that takes OpenSSL half a second to read: its key is on a curve of its own, over the prime 141 * 2^640 + 1.
+SLOW = ("MIICizCCAnCgAwIBAgIBAjAKBggqhkjOPQQDAjAMMQowCAYDVQQDDAF4MB4XDTI1MDEwMTAwMDAwMFoXDTM1MDEwMTAwMDAwMFowDDEKMAgGA1UEAwwBeDCCAhwwggHDBg"
+        "cqhkjOPQIBMIIBtgIBATBdBgcqhkjOPQEBAlIAjQAAAAAAAAAAAAAAAAAAAAAAAAAAAAAAAAAAAAAAAAAAAAAAAAAAAAAAAAAAAAAAAAAAAAAAAAAAAAAAAAAAAAAAAAAA"
+        "AAAAAAAAAAAAAAABMIGmBFEAAAAAAAAAAAAAAAAAAAAAAAAAAAAAAAAAAAAAAAAAAAAAAAAAAAAAAAAAAAAAAAAAAAAAAAAAAAAAAAAAAAAAAAAAAAAAAAAAAAAAAAAAAA"
+        "EEUQAAAAAAAAAAAAAAAAAAAAAAAAAAAAAAAAAAAAAAAAAAAAAAAAAAAAAAAAAAAAAAAAAAAAAAAAAAAAAAAAAAAAAAAAAAAAAAAAAAAAAAAAAAAQRSAnsDMS6tIikwrpFY"
+        "1KifA7xaTe5IErFhB/G+Q3x7psr0o0ECOu1U7xJaJb2mWZmGSOAT1TFvMsMkRKSMHVyh/rYknfICXwv3pL3EWCcvSY2/qAJSAI0AAAAAAAAAAAAAAAAAAAAAAAAAAAAAAA"
+        "AAAAAAAAAAAAAAAAAAAAAAAAAAAAAAAAAAAAAAAAAAAAAAAAAAAAAAAAAAAAAAAAAAAAAAAAAAAQIBAQNTAAKKF2qLUYNVznOth+UNH28XoMAsu3zfVPpQICHcLDZpJlqC"
+        "nBFym7M7jGd2an8/Ckg6iN+MZ140+B39btyRlmqT4XC6kPDmTVKgmJBiUULBJ4wwCgYIKoZIzj0EAwIDCQAwBgIBAQIBAQ==")
 WAITS = f"/transactions/{'ab' * 32}?wait=600"
 
 
@@ -84,10 +93,21 @@ def free_ports():
         return [it.getsockname()[1] for it in found]
 
 
-@unittest.skipUnless(shutil.which("haproxy", path="/usr/sbin"), "no haproxy")
+@functools.cache
+def guard() -> pathlib.Path:
+    """What the units load beside OpenSSL, as the Makefile makes it."""
+    room = tempfile.TemporaryDirectory()
+    unittest.addModuleCleanup(room.cleanup)
+    made, flags = pathlib.Path(room.name) / "certificates.so", ["-shared", "-fPIC", "-O2", "-Wall", "-Wextra", "-Werror"]
+    subprocess.run(["clang", *flags, "-o", made, support.ROOT / "node/certificates.c"], check=True)
+    return made
+
+
+@unittest.skipUnless(shutil.which("haproxy", path="/usr/sbin") and shutil.which("clang"), "no haproxy, or no clang")
 class Doors(unittest.TestCase):
     room: pathlib.Path
     node: subprocess.Popen
+    proxy: subprocess.Popen
     port: int
     page: int
 
@@ -114,9 +134,13 @@ class Doors(unittest.TestCase):
             (cls.room / name).write_text("".join((cls.room / it).read_text() for it in parts))
         cls.port, cls.page = free_ports()
         cls.node = cls.begin([sys.executable, "-B", __file__, cls.room])
-        places = {"LISTEN": f"127.0.0.1:{cls.port}", "PAGE": f"127.0.0.1:{cls.page}", "SETTINGS": str(cls.room), "SOCKETS": str(cls.room)}
-        cls.proxy = cls.begin(["/usr/sbin/haproxy", "-db", "-f", CONFIGURATION], places)
+        cls.proxy = cls.begin_proxy(CONFIGURATION, cls.port, cls.page)
         cls.come(lambda: cls.get("/height")[0] == 200)
+
+    @classmethod
+    def begin_proxy(cls, settings: pathlib.Path, port: int, page: int) -> subprocess.Popen:
+        places = {"LISTEN": f"127.0.0.1:{port}", "PAGE": f"127.0.0.1:{page}", "SETTINGS": str(cls.room), "SOCKETS": str(cls.room)}
+        return cls.begin(["/usr/sbin/haproxy", "-db", "-f", settings], {**places, "LD_PRELOAD": str(guard())})
 
     @classmethod
     def begin(cls, command: list, env: dict[str, str] | None = None) -> subprocess.Popen:
@@ -204,6 +228,33 @@ class Doors(unittest.TestCase):
         self.assertEqual(self.get("/height", "forged", Regtuma_Certificate=text)[0], 403)
         self.assertEqual(self.get("/height", "forged", regtuma_certificate=text)[0], 403)
 
+    def trailers(self, name: str) -> tuple[bytes, bytes]:
+        """What a caller without rights sends: a body in chunks, then another one's certificate; and its own next request."""
+        own, other = (base64.b64encode(ssl.PEM_cert_to_DER_cert((self.room / f"{it}.pem").read_text())).decode() for it in (name, "alice"))
+        begun = self.post(f"2\r\n{{}}\r\n0\r\nRegtuma-Certificate: {other}\r\n\r\n".encode(), f"{JSON}\r\nTransfer-Encoding: chunked")
+        return begun, f"GET /height HTTP/1.1\r\nHost: 127.0.0.1\r\nRegtuma-Certificate: {own}\r\n\r\n".encode()
+
+    def test_what_follows_a_body_in_chunks_names_no_caller(self):
+        """By the proxy, which takes no such body; also in the next request of its connection."""
+        at = self.connect("forged")
+        first, second = self.trailers("forged")
+        self.assertEqual(self.answered(at, first), (411, '{"why":"a body says its length by Content-Length, and is not in chunks"}'))
+        with contextlib.suppress(OSError, http.client.HTTPException):
+            self.assertEqual(self.answered(at, second)[0], 403)
+        self.assertEqual(self.answered(self.connect(), first)[0], 411)
+
+    def test_the_node_takes_no_body_in_chunks(self):
+        """Whatever the proxy hands on: the connection ends, also if more requests have come already."""
+        first, second = self.trailers("forged")
+        for more in (b"", second):
+            with self.subTest(more=more[:20]), socket.socket(socket.AF_UNIX) as at:
+                at.settimeout(SOON)
+                at.connect(str(self.room / "node.sock"))
+                self.assertEqual(self.answered(at, first + more)[0], 411)
+                with contextlib.suppress(OSError):
+                    at.sendall(second)
+                    self.assertEqual(at.recv(100), b"")
+
     def test_strangers_do_not_come_in(self):
         """With a certificate of an unknown authority, or with none."""
         unnamed = ssl.create_default_context(cafile=str(self.room / "maker.ca.pem"))
@@ -218,6 +269,49 @@ class Doors(unittest.TestCase):
             words = ["openssl", "s_client", "-connect", f"127.0.0.1:{self.port}", "-tls1_3", "-groups", group]
             said = subprocess.run(words, stdin=subprocess.DEVNULL, stdout=subprocess.PIPE, stderr=subprocess.STDOUT, text=True).stdout
             self.assertEqual("New, TLSv1.3" in said, comes_in, f"{group} {said}")
+
+    def chain(self, count: int) -> pathlib.Path:
+        """A stranger's certificate with so many slow ones behind it."""
+        made = self.room / f"chain{count}.pem"
+        made.write_text((self.room / "stranger.pem").read_text() + count * ssl.DER_cert_to_PEM_cert(base64.b64decode(SLOW)))
+        return made
+
+    def processor(self) -> float:
+        """The seconds of processor that the proxy had."""
+        fields = pathlib.Path(f"/proc/{self.proxy.pid}/stat").read_text().rpartition(")")[2].split()
+        return (int(fields[11]) + int(fields[12])) / os.sysconf("SC_CLK_TCK")
+
+    def test_no_certificate_takes_the_proxy_long(self):
+        """OpenSSL reads those of a stranger before it looks whether they count, and haproxy ends where that takes a second."""
+        stranger = ssl.create_default_context(cafile=str(self.room / "maker.ca.pem"))
+        stranger.load_cert_chain(self.chain(2), self.room / "stranger.key")
+        before = self.processor()
+        for _ in range(2):
+            with self.assertRaises(OSError), stranger.wrap_socket(self.connect(port=self.port), server_hostname="127.0.0.1") as at:
+                at.sendall(b"GET /height HTTP/1.1\r\nHost: x\r\n\r\n")
+                self.assertEqual(at.recv(100), b"")
+                raise OSError
+        self.assertLess(self.processor() - before, 0.5)
+        self.others_are_served()
+
+    def test_no_certificate_takes_a_node_long(self):
+        """That asks another one which sends them: its Python has the same beside OpenSSL."""
+        server = ssl.create_default_context(ssl.Purpose.CLIENT_AUTH)
+        server.load_cert_chain(self.chain(2), self.room / "stranger.key")
+        at = self.opened.enter_context(socket.create_server(("127.0.0.1", 0)))
+
+        def serve() -> None:
+            with contextlib.suppress(OSError):
+                for _ in range(2):
+                    server.wrap_socket(at.accept()[0], server_side=True).close()
+        threading.Thread(target=serve, daemon=True).start()
+        script = "import socket, ssl, sys, time\ntls = ssl.create_default_context(cafile=sys.argv[1])\nbegan = time.process_time()\n" \
+                 "try:\n    tls.wrap_socket(socket.create_connection(('127.0.0.1', int(sys.argv[2]))), server_hostname='127.0.0.1')\n" \
+                 "except OSError as error:\n    print(error, time.process_time() - began)"
+        words = [sys.executable, "-c", script, str(self.room / "stranger.pem"), str(at.getsockname()[1])]
+        said = subprocess.run(words, env={**os.environ, "LD_PRELOAD": str(guard())}, stdout=subprocess.PIPE, text=True, check=True).stdout
+        self.assertIn("ASN1 lib", said)
+        self.assertLess(float(said.split()[-1]), 0.3, said)
 
     def test_no_session_is_taken_up_again(self):
         at = self.connect("alice")
@@ -267,6 +361,35 @@ class Doors(unittest.TestCase):
         self.assertEqual((set(answers[:1000]), answers[-1]), ({400}, 429))
         self.assertEqual(self.get("/height", "eve")[0], 429)
         self.others_are_served()
+
+    def test_what_is_denied_to_an_organisation_counts_for_nothing_against_it(self):
+        """At another proxy, where it has 10 requests in a second: who asks for more without end keeps no other one out."""
+        text, settings, (port, page) = CONFIGURATION.read_text(), self.room / "proxy.cfg", free_ports()
+        for old, new in (("sc1_gpc1_rate ge 4000", "sc1_gpc1_rate ge 10"), ("gpc1,gpc1_rate(10s)", "gpc1,gpc1_rate(1s)")):
+            self.assertEqual(text.count(old), 1)
+            text = text.replace(old, new)
+        settings.write_text(text)
+        self.begin_proxy(settings, port, page)
+        ended, said = threading.Event(), list[int]()
+
+        def asks(name: str, pause: float) -> None:
+            at = self.connect(name, port)
+            while not ended.wait(pause):
+                said.append(self.answered(at, b"GET /height HTTP/1.1\r\nHost: x\r\n\r\n")[0])
+        self.come(lambda: self.is_there(port))
+        greedy = threading.Thread(target=asks, args=("dan", 0.01))
+        greedy.start()
+        self.addCleanup(greedy.join)
+        self.addCleanup(ended.set)
+        self.come(lambda: 429 in said)
+        at, often = self.connect("dora", port), b"GET /height HTTP/1.1\r\nHost: x\r\n\r\n"
+        self.come(lambda: self.answered(at, often)[0] == 200)
+
+    def is_there(self, port: int) -> bool:
+        with contextlib.suppress(OSError):
+            self.connect("alice", port).close()
+            return True
+        return False
 
     def test_an_organisations_node_has_a_share_of_its_own(self):
         for name in ("dan", "dora"):
@@ -469,7 +592,8 @@ class Doors(unittest.TestCase):
                 (self.post(b"{}", f"{JSON}; charset=nowhere"), 400, "chaincode is a name"),
                 (self.post(b'"\xff"', JSON), 400, "the body is no JSON"),
                 (self.post(b"\x1f\x8bxx", f"{JSON}\r\nContent-Encoding: gzip"), 400, "a body is not packed"),
-                (self.post(b"zz\r\n\r\n", f"{JSON}\r\nTransfer-Encoding: chunked"), 400, "")]
+                (self.post(b"zz\r\n\r\n", f"{JSON}\r\nTransfer-Encoding: chunked"), 400, ""),
+                (self.post(b"2\r\n{}\r\n0\r\n\r\n", f"{JSON}\r\nTransfer-Encoding: chunked"), 411, "Content-Length")]
 
     def test_what_is_no_request_is_answered_with_the_reason(self):
         """By the proxy or by the node, which tells nothing of it in the journal."""
@@ -513,7 +637,7 @@ class Doors(unittest.TestCase):
                 at.sendall(begun)
                 if more:
                     # Where they come behind the header, aiohttp leaves the handler to its time.
-                    self.assertIn(self.answered(at, more)[0], (400, 408))
+                    self.assertIn(self.answered(at, more)[0], (400, 411))
         self.come(lambda: self.files() <= files)
         self.assertFalse("Traceback" in self.said(), self.said()[-2000:])
 

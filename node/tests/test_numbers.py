@@ -1,35 +1,17 @@
-"""Numbers and flags are those of the documents."""
+"""Flags are those of the rules, and numbers have words."""
 import asyncio
 import re
 import unittest
 
 import support
-from regtuma import numbers
-
-ROW = re.compile(r"^\| (\d[\d, ]*?)(?: block n)? \|", re.MULTILINE)
-
-
-def documented() -> set[int]:
-    """The numbers that stand first in a row of a table of the documents."""
-    found = set()
-    for name in ("INPUT", "OUTPUT", "RULES", "MODULES"):
-        text = (support.ROOT / "docs" / f"{name}.md").read_text(encoding="utf-8")
-        found |= {int(it) for row in ROW.findall(text) for it in row.split(",")}
-    return found
+from regtuma import numbers, table
 
 
 class Numbers(unittest.TestCase):
-    def test_each_stands_in_the_documents(self):
-        self.assertEqual(set(numbers.NUMBERS) - documented(), set())
-
     def test_flags_are_those_of_the_rules(self):
         text = (support.ROOT / "docs" / "RULES.md").read_text(encoding="utf-8")
         rows = re.findall(r"^\| ([A-Z_]+) \| ([0-4]) \|", text, re.MULTILINE)
-        self.assertEqual({int(number): name for name, number in rows}, numbers.FLAGS)
-
-    def test_each_number_that_answers_a_call_has_words(self):
-        of_a_call = {it for it in documented() if 401 <= it <= 409 or it in (421, 422, 441, 442)}
-        self.assertEqual(of_a_call - set(numbers.NUMBERS), set())
+        self.assertEqual({int(number): name for name, number in rows}, table.FLAGS)
 
     def test_a_refusal_in_words(self):
         self.assertEqual(numbers.in_words("refused 404 status 2"), {"refused": 404, "why": "the chaincode refused the call (status 2)"})

@@ -8,7 +8,7 @@ from collections.abc import AsyncIterator
 from unittest import mock
 
 import support
-from regtuma import chain, endorsing, filters, numbers, peer as peers
+from regtuma import chain, endorsing, filters, peer as peers, table
 from regtuma.endorsing import Approver
 from regtuma.filters import Asked, Filter, FilterEnded
 from regtuma.metrics import Metrics
@@ -206,7 +206,7 @@ class Peers(unittest.IsolatedAsyncioTestCase):
             with mock.patch.object(Peer, "answer_to", return_value=(said, 5)), self.assertRaises(Refused) as refused:
                 await self.peer.ask_for("block", number=1)
             self.assertEqual((refused.exception.status, refused.exception.said["refused"]), (503, number))
-        self.assertEqual((self.peer.lost, self.peer.why_lost), (2, f"refused 703: {numbers.NUMBERS[703]}"))
+        self.assertEqual((self.peer.lost, self.peer.why_lost), (2, f"refused 703: {table.MEANINGS[703]}"))
         self.assertEqual(await self.peer.text_of("members"), ('ask {"ask": "members"}', 1))
 
     async def test_what_ends_it(self):
