@@ -6,6 +6,7 @@
 #
 # Below PREFIX/lib/regtuma lies what is needed of the repository, each file where it has it. ./ledger dist packs the same.
 PREFIX ?= /usr/local
+CLANG ?= clang
 LEDGER ?= crates/ledger_cli/out/ledger_cli
 LIB = $(DESTDIR)$(PREFIX)/lib/regtuma
 BIN = $(DESTDIR)$(PREFIX)/bin
@@ -14,7 +15,7 @@ COMPLETION = $(DESTDIR)$(PREFIX)/share/bash-completion/completions/ledger
 MAN = $(DESTDIR)$(PREFIX)/share/man/man1/ledger.1
 
 FILES = VERSION LICENSE Makefile CHANGELOG.md CONTRIBUTING.md README.md bench/README.md crates/README.md docs/page.png \
-	$(wildcard docs/*.md docs/decisions/*.md python/*.py node/*.example node/*.cfg node/regtuma/*.py node/regtuma/*.js node/clients/*.mjs \
+	$(wildcard docs/*.md docs/decisions/*.md python/*.py node/*.example node/*.cfg node/*.c node/regtuma/*.py node/regtuma/*.js node/regtuma/*.json node/clients/*.mjs \
 	node/systemd/* examples/node/* examples/chaincode/*.h examples/chaincode/*.c examples/chaincode/*.wat \
 	examples/chaincode/*.wasm examples/chaincode/Cargo.toml examples/chaincode/*/Cargo.toml examples/chaincode/*/src/*.rs \
 	examples/chaincode/*/tests/*.rs) examples/page/template.html crates/cli_words/src/table.rt
@@ -26,6 +27,8 @@ install:
 	@for file in $(FILES); do install -D -m 644 $$file $(LIB)/$$file || exit 1; done
 	@for file in $(SCRIPTS); do install -D -m 755 $$file $(LIB)/$$file || exit 1; done
 	@install -m 755 $(LEDGER) $(LIB)/ledger_cli
+	@$(CLANG) -shared -fPIC -O2 -Wall -Wextra -Werror -o $(LIB)/node/certificates.so node/certificates.c || \
+		{ echo "node/certificates.c is not compiled: install clang, or name another compiler by CLANG=" >&2; exit 1; }
 	@install -d $(BIN) $(UNITS)
 	@ln -sfn ../lib/regtuma/ledger $(BIN)/ledger
 	@ln -sfn ../lib/regtuma/node/certs.sh $(BIN)/regtuma-certs

@@ -20,10 +20,11 @@ from commands import Call, Given, Misuse, argument, modules
 from debug import NOTHING, RUN, check_name, refusal, simulated
 from folder import KEYS, network_at
 from membership import Ledger, membership_of, owners
-from outcome import WHY, effects, verdict
+from outcome import effects, verdict
 from peer import Beside, Ended, Peer, Refused, answered
 from program import find, progress, say
 from regtuma import wire
+from regtuma.table import FLAG_MEANINGS
 
 OF_ANOTHER = "ask the node (regtuma submit), or copy the file"
 
@@ -162,7 +163,7 @@ def told(made: Made, is_hex: bool) -> int:
         say(f"call: it stands in block {made.block} already, and nothing is written")
     tell([*([] if flag else effects(made.tx, is_hex)), verdict(flag, made.block, made.tx["id"])])
     if flag:
-        say(f"call: {WHY[flag]} (flag {flag})")
+        say(f"call: {FLAG_MEANINGS[flag]} (flag {flag})")
     return 1 if flag else 0
 
 

@@ -5,6 +5,7 @@ import re
 from collections.abc import Iterable, Iterator
 
 from program import ROOT
+from regtuma.table import MOST
 
 # The table of the program's commands, and a row of it: a name, words, options, and what the command does.
 TABLE = ROOT / "crates" / "cli_words" / "src" / "table.rt"
@@ -15,8 +16,6 @@ OPTION = re.compile(r"\[(--?[a-z-]+)(?: ([^\]]+))?\](\.\.)?")
 
 # How like a word has to be that was meant: 1 is the same.
 LEAST_LIKE = 0.5
-# The argument of a call has so many bytes at most.
-MOST_BYTES = 4096
 
 
 class Misuse(Exception):
@@ -156,8 +155,9 @@ def argument(args: list[str], is_hex: bool) -> str:
             made = " ".join(args).encode().hex()
         except UnicodeEncodeError as error:
             raise Misuse("ARG is no UTF-8; --hex takes other bytes") from error
-    if len(made) > 2 * MOST_BYTES:
-        raise Misuse(f"an argument has up to {MOST_BYTES:,} bytes, and this one has {len(made) // 2:,}")
+    most = MOST["value_bytes"]
+    if len(made) > 2 * most:
+        raise Misuse(f"an argument has up to {most:,} bytes, and this one has {len(made) // 2:,}")
     return made
 
 

@@ -28,6 +28,7 @@ from regtuma import cli, numbers
 from regtuma.client import Client, Failed
 from regtuma.entries import Lines, LogError
 from regtuma.filed import entries_of
+from regtuma.table import FLAGS
 from regtuma.wire import Object
 
 # The Python that has Debian's packages, and those that a node needs.
@@ -301,7 +302,7 @@ def lines_of(block: Object) -> Iterator[str]:
     """A line for each transaction of a block."""
     for place, tx in enumerate(block["txs"]):
         result = f" -> {cli.text_of(tx['result'])}" if tx["result"] else ""
-        yield f"{block['block']}.{place} {numbers.FLAGS[tx['flag']]}: {cli.call(tx)}{result}"
+        yield f"{block['block']}.{place} {FLAGS[tx['flag']]}: {cli.call(tx)}{result}"
 
 
 def follow(url: str, first: int, told: "queue.SimpleQueue[str | NoNetwork]") -> None:

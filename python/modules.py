@@ -2,18 +2,17 @@
 import re
 
 from network import MOST_MODULE_BYTES, PROFILES, USUAL_PROFILE, Mistake, ask, quoted, reason, text_of
+from regtuma.table import MOST
 from remarks import of_file
 
-# How many modules a modules file has at most.
-MOST_HELD = 64
 # What the program says of a module that it refuses.
 REFUSED = re.compile(r"^(refused .*)$", re.MULTILINE)
 
 
 def modules_file(words: list[str], program: str) -> str:
     """The text of a file with the modules of these words, each the name of a file, and `:2` where its profile is 2."""
-    if len(words) > MOST_HELD:
-        raise Mistake(f"a modules file has up to {MOST_HELD} modules, and {len(words)} are named")
+    if len(words) > MOST["held_modules"]:
+        raise Mistake(f"a modules file has up to {MOST['held_modules']} modules, and {len(words)} are named")
     return text_of([module(*divided(word), program) for word in words])
 
 

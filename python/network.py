@@ -12,18 +12,19 @@ from collections.abc import Iterable, Iterator
 from typing import Any
 
 from program import find
+from regtuma.table import MOST, NAMES
 
 # The fields of the file, and those of its modules.
 FIELDS = ("orgs", "peers", "seats", "queue", "count", "preferred", "absolute", "reorder", "rules", "chaincodes", "modules", "upgrade")
 MODULE_FIELDS = ("module", "profile")
 # The greatest number that each of these may be, and what it is where it is left out. The least is 1.
-NUMBERS = {"seats": (64, 4), "queue": (4096, 64), "count": (512, 512), "preferred": (524288, 65536), "absolute": (524288, 524288)}
-MOST_FUEL, USUAL_FUEL = 10000000, 100000
+NUMBERS = {"seats": (MOST["seats"], 4), "queue": (MOST["queue"], 64), "count": (MOST["block_transactions"], 512),
+           "preferred": (MOST["block_bytes"], 65536), "absolute": (MOST["block_bytes"], 524288)}
+USUAL_FUEL = 100000
 # The newest rules of a ledger. Rules 1 are those of a genesis file without the field.
 NEWEST_RULES = 2
 # The profiles of modules, and what an open definition has more than its profile.
 PROFILES, USUAL_PROFILE, OPEN = (1, 2), 1, 16
-MOST_PEERS, MOST_MODULES = 8, 16
 # The bytes of a network file and of a module, at most.
 MOST_BYTES, MOST_MODULE_BYTES = 131072, 262144
 # What two fields have to be.
@@ -64,8 +65,8 @@ class Kind:
 
 
 ONE_KEY = "one of key (shared), public and keys (a key file)"
-ORGS = Kind("orgs", re.compile("[A-Za-z0-9_]{1,32}"), "letters, digits and _", 16, ("key", "public", "keys"), ONE_KEY)
-CHAINCODES = Kind("chaincodes", re.compile("[a-z0-9_-]{1,32}"), "lower-case letters, digits, _ and -", 16,
+ORGS = Kind("orgs", NAMES["organisation"], "letters, digits and _", MOST["organisations"], ("key", "public", "keys"), ONE_KEY)
+CHAINCODES = Kind("chaincodes", NAMES["chaincode"], "lower-case letters, digits, _ and -", MOST["chaincodes"],
                   ("module", "profile", "policy", "fuel"), "module, policy, profile and fuel")
 
 
@@ -244,8 +245,8 @@ def organisation(name: str, table: Table) -> dict[str, str]:
 
 def peers(network: Table, orgs: list[str]) -> list[str]:
     names = network.fields.get("peers", orgs)
-    if not isinstance(names, list) or not 1 <= len(names) <= MOST_PEERS or not all(isinstance(it, str) for it in names):
-        raise network.mistake(f"peers has to list 1 to {MOST_PEERS} names of [orgs]; left out, it is all of them")
+    if not isinstance(names, list) or not 1 <= len(names) <= MOST["peers"] or not all(isinstance(it, str) for it in names):
+        raise network.mistake(f"peers has to list 1 to {MOST['peers']} names of [orgs]; left out, it is all of them")
     for name in names:
         if name not in orgs:
             raise network.mistake(f"peers has {shown(name)}, which is none of [orgs]: {', '.join(orgs)}")
@@ -255,14 +256,14 @@ def peers(network: Table, orgs: list[str]) -> list[str]:
 def chaincode(name: str, table: Table) -> dict[str, object]:
     made = module(table)
     policy = table.text("policy", "the policy of those who have to endorse")
-    fuel = table.number("fuel", MOST_FUEL, USUAL_FUEL)
+    fuel = table.number("fuel", MOST["fuel"], USUAL_FUEL)
     return {"name": name, "module": made["module"], "policy": policy, "fuel": fuel, "profile": made["profile"]}
 
 
 def more_modules(network: Table) -> list[Table]:
     found = network.fields.get("modules", [])
-    if not isinstance(found, list) or len(found) > MOST_MODULES or not all(isinstance(it, dict) for it in found):
-        raise network.mistake(f"modules has to be up to {MOST_MODULES} tables [[modules]] with module and profile")
+    if not isinstance(found, list) or len(found) > MOST["modules"] or not all(isinstance(it, dict) for it in found):
+        raise network.mistake(f"modules has to be up to {MOST['modules']} tables [[modules]] with module and profile")
     return [network.within(f"[[modules]] {number}", fields, MODULE_FIELDS) for number, fields in enumerate(found, 1)]
 
 

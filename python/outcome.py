@@ -3,10 +3,8 @@ import re
 from collections.abc import Iterator, Mapping
 from typing import Any
 
-# The flags of transactions, by their numbers, and why a transaction has one.
-FLAGS = ("VALID", "ENDORSEMENT_POLICY_FAILURE", "MVCC_READ_CONFLICT", "PHANTOM_READ_CONFLICT", "DUPLICATE_TXID")
-WHY = ("", "those who endorsed do not satisfy the policy", "a key that it read has another version",
-       "a range that it read has other keys", "its id stands earlier in the chain")
+from regtuma.table import FLAGS
+
 # Characters that end a line, move the cursor or turn the order of others.
 CONTROL = re.compile("[\0-\x1f\x7f-\x9f\u2028-\u202e\u2066-\u2069]")
 

@@ -28,13 +28,13 @@ SAYS = ("0061736d01000000010b0260027f7f017f6000017f021501066661627269630a7365745
         "00010a0d010b004100410710001a41040b0b0d010041000b076e6f7420796574")
 # Calls of stores of test/cases: the words, the refusal, and what its sentence tells.
 REFUSED = [
-    ("open.json open.store kv", "refused 406", "is at hand"),
+    ("open.json open.store kv", "refused 406", "at hand"),
     ("open.json open.store kv --modules modules-bad.json", "refused 801", "modules-bad.json"),
     ("put.json damaged.store kv", "refused 702 block 1", "record 1 is damaged"),
     ("put.json put.json kv", "refused 702 block 1", "put.json looks like a genesis file, and STORE has to be a store"),
     ("put.json put.wasm kv", "refused 702 block 1", "put.wasm looks like a module, and STORE has to be a store"),
     ("put.json notes.txt kv", "refused 702 block 1", "notes.txt looks like a text, and STORE has to be a store"),
-    ("put.json unlinked.store kv", "refused 602 block 2", "it is another ledger's"),
+    ("put.json unlinked.store kv", "refused 602 block 2", "the block is of another chain"),
     ("put.json wrong.store kv", "refused 603 block 2", "(603)"),
     ("put.json older.store kv", "refused 711 block 1", "(711)"),
     ("put.json . kv", "refused 703", ".: it is a folder (703)"),
@@ -51,7 +51,7 @@ REFUSED = [
     ("put.json whole.store other", "refused 401", 'there is no chaincode "other"; there is kv (401)'),
     ("put.json whole.store KV", "refused 401", 'there is no chaincode "KV"'),
     ("put.json whole.store kw --dry-run", "refused 401", 'did you mean "kv"? (401)'),
-    ("open.json open.store kv --dry-run", "refused 406", "is at hand"),
+    ("open.json open.store kv --dry-run", "refused 406", "at hand"),
     ("put.json damaged.store kv --dry-run", "refused 702 block 1", "record 1 is damaged"),
     ("put.json whole.store kv --orgs Nobody", "refused 806", "Nobody: no member of that name stands behind the store (806)"),
 ]
@@ -258,7 +258,7 @@ def try_full(at: Calls, last: int = LAST_BLOCK) -> None:
         return
     (at.room / "full.store").write_bytes(chain_of(last - 1))
     at.is_valid("the last block", last, "put.json", "full.store", "kv")
-    at.is_refused("a full chain", "refused 422", "the chain is full (422)", "put.json", "full.store", "kv")
+    at.is_refused("a full chain", "refused 422", "the chain is full", "put.json", "full.store", "kv")
     ran = at.call("put.json", "full.store", "kv", "--dry-run")
     at.case("a dry run on a full chain", ran.status == 0 and ran.out == "write a put 1\n", ran)
     (at.room / "long.store").write_bytes(chain_of(last))

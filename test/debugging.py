@@ -172,7 +172,7 @@ def try_stores(at: Debugging) -> None:
     with at.asking("open.json", str(at.at / "open.store"), "--modules", str(at.at / "modules.json")) as state:
         run = at.agree(state, at.asked("open.json", "kv", modules=("--modules", str(at.at / "modules.json"))))
         at.report.case("it takes the newest definition", run.given == 141, str(run.given))
-    for typed, line, told in (("open.json kv --store open.store", "refused 406\n", "is at hand"),
+    for typed, line, told in (("open.json kv --store open.store", "refused 406\n", "at hand"),
                               ("open.json kw", "refused 401\n", 'no chaincode "kw"; did you mean "kv"?'),
                               ("open.json Kv", "refused 401\n", 'no chaincode "Kv"'), ("- kv", "refused 703\n", "no such file"),
                               ("open.json kv --store none", "refused 703\n", "none: "), ("modules.json kv", "refused 802\n", "modules.json")):

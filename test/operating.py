@@ -165,6 +165,8 @@ class Operating:
         """The Shop's member of etcd is lost, and a new one takes its place."""
         self.shop.stop("regtuma-etcd")
         shutil.rmtree(self.shop.root / "var/lib/regtuma-etcd")
+        # etcd changes members only once all of them have been connected for five seconds.
+        time.sleep(8)
         self.maker.type(self.report, *self.block("export ETCDCTL_USER"), *self.block("etcdctl member remove"))
         self.shop.type(self.report, *self.block("sed -i s/STATE=new"))
         self.maker.env["ETCDCTL_USER"] = f"root:{(self.maker.etc / 'root.password').read_text().strip()}"

@@ -39,7 +39,7 @@ from tree import ENVIRONMENT, UNPROVED, program
 # How long a script may take to say how it is used, and how long tests may take, in seconds.
 SHORT, LONG = 30, 550
 # The scripts that people run.
-SCRIPTS = ["ledger", "docs/definitions", "docs/stands-on", "test/run", "test/documents", "test/questions.py", "examples/chaincode/build.sh",
+SCRIPTS = ["ledger", "docs/definitions", "docs/stands-on", "docs/tables", "test/run", "test/documents", "test/questions.py", "examples/chaincode/build.sh",
            "examples/assets/*.py", "examples/page/make.py", "examples/page/seal.py", "examples/page/test", "examples/roles/plain",
            "bench/build.sh", "bench/gate", "bench/hostile", "bench/instructions", "bench/node", "bench/plants", "bench/plot",
            "bench/run", "bench/slowest", "bench/state", "bench/threads", "bench/untuned/build.sh",
@@ -258,6 +258,7 @@ def keys(report: Report, at: Setting) -> None:
 
 
 def numbers(report: Report, at: Setting) -> None:
+    at.run(report, "docs/tables --check", ["docs/tables", "--check"])
     explaining.try_explain(report, at.tree, at.env)
 
 
