@@ -260,11 +260,17 @@ class Gateway:
             payload, endorsement = bytes.fromhex(said["payload"]), bytes.fromhex(said["endorsement"])
             if not said["payload"].startswith(begin):
                 faults[organisation] = OTHER_CALL
-            elif organisation not in keys or not keys[organisation].endorses(organisation, endorsement, payload):
+            elif organisation not in keys:
+                faults[organisation] = OTHER_KEY
+            elif not self.is_own(organisation, said) and not keys[organisation].endorses(organisation, endorsement, payload):
                 faults[organisation] = OTHER_KEY
             elif own and "payload" in own and own["height"] == said["height"] and own["payload"] != said["payload"]:
                 faults[organisation] = OTHER_PAYLOAD
         return faults
+
+    def is_own(self, organisation: str, said: Object) -> bool:
+        """Whether this node's own peer answered, on a state with today's keys: it is proved that it signs by the right one there."""
+        return organisation == self.config.organisation and self.chain.keys.stood(said["height"])
 
     def leave_out(self, organisation: str, fault: str, asking: "Asking") -> None:
         """Asks who was at fault no more, for a while."""

@@ -5,6 +5,7 @@ goes into one entry, once a node has put many: a call that comes alone waits for
 have together.
 """
 import asyncio
+import math
 import time
 
 # An entry each so many seconds, and so many at once before that. In an hour these are 3,600 / 0.2 + 1,000 = 19,000, ticks and what was seen
@@ -23,8 +24,8 @@ class Pace:
 
     def __init__(self, each: float = EACH, burst: float = BURST):
         self.each, self.burst = each, burst
-        # When the next one may be put, by a clock that never goes back, if none were put at once.
-        self.next = 0.0
+        # When the next one may be put, by a clock that never goes back, if none were put at once. That clock may begin with the machine.
+        self.next = -math.inf
 
     def take(self, count: float = 1) -> None:
         self.next = max(self.next, time.monotonic() - self.burst * self.each) + count * self.each

@@ -1,4 +1,5 @@
 """What the tests of the node share. Those that import it find the modules of the node."""
+import atexit
 import functools
 import json
 import logging
@@ -20,6 +21,14 @@ from regtuma import config
 EXAMPLE = json.loads((ROOT / "examples" / "assets" / "genesis.json").read_text())
 # A test may block its loop for a while, and has connections refused.
 logging.getLogger("asyncio").setLevel(logging.CRITICAL)
+# A certificate that takes OpenSSL half a second to read: its key is on a curve of its own, over the prime 141 * 2^640 + 1.
+SLOW = ("MIICizCCAnCgAwIBAgIBAjAKBggqhkjOPQQDAjAMMQowCAYDVQQDDAF4MB4XDTI1MDEwMTAwMDAwMFoXDTM1MDEwMTAwMDAwMFowDDEKMAgGA1UEAwwBeDCCAhwwggHDBg"
+        "cqhkjOPQIBMIIBtgIBATBdBgcqhkjOPQEBAlIAjQAAAAAAAAAAAAAAAAAAAAAAAAAAAAAAAAAAAAAAAAAAAAAAAAAAAAAAAAAAAAAAAAAAAAAAAAAAAAAAAAAAAAAAAAAA"
+        "AAAAAAAAAAAAAAABMIGmBFEAAAAAAAAAAAAAAAAAAAAAAAAAAAAAAAAAAAAAAAAAAAAAAAAAAAAAAAAAAAAAAAAAAAAAAAAAAAAAAAAAAAAAAAAAAAAAAAAAAAAAAAAAAA"
+        "EEUQAAAAAAAAAAAAAAAAAAAAAAAAAAAAAAAAAAAAAAAAAAAAAAAAAAAAAAAAAAAAAAAAAAAAAAAAAAAAAAAAAAAAAAAAAAAAAAAAAAAAAAAAAAAQRSAnsDMS6tIikwrpFY"
+        "1KifA7xaTe5IErFhB/G+Q3x7psr0o0ECOu1U7xJaJb2mWZmGSOAT1TFvMsMkRKSMHVyh/rYknfICXwv3pL3EWCcvSY2/qAJSAI0AAAAAAAAAAAAAAAAAAAAAAAAAAAAAAA"
+        "AAAAAAAAAAAAAAAAAAAAAAAAAAAAAAAAAAAAAAAAAAAAAAAAAAAAAAAAAAAAAAAAAAAAAAAAAAAQIBAQNTAAKKF2qLUYNVznOth+UNH28XoMAsu3zfVPpQICHcLDZpJlqC"
+        "nBFym7M7jGd2an8/Ckg6iN+MZ140+B39btyRlmqT4XC6kPDmTVKgmJBiUULBJ4wwCgYIKoZIzj0EAwIDCQAwBgIBAQIBAQ==")
 CONFIGURATION = """\
 organisation = "Maker"
 listen = "node.sock"
@@ -109,6 +118,16 @@ class Folder:
 
     def close(self) -> None:
         self.room.cleanup()
+
+
+@functools.cache
+def preload() -> pathlib.Path:
+    """What the units load beside OpenSSL, as the Makefile makes it."""
+    room = tempfile.TemporaryDirectory()
+    atexit.register(room.cleanup)
+    made, flags = pathlib.Path(room.name) / "certificates.so", ["-shared", "-fPIC", "-O2", "-Wall", "-Wextra", "-Werror"]
+    subprocess.run(["clang", *flags, "-o", made, ROOT / "node/certificates.c"], check=True)
+    return made
 
 
 @functools.cache

@@ -45,14 +45,8 @@ MALFORMED = (b"GARBAGE\r\n\r\n", b"GET /state/\xff HTTP/1.1\r\nHost: x\r\n\r\n",
 JSON, SOCKET_KEY = "Content-Type: application/json", "Sec-WebSocket-Version: 13\r\nSec-WebSocket-Key: dGhlIHNhbXBsZSBub25jZQ=="
 # How the Carrier may spell its own name as a signer: to TLS all are one.
 SPELLINGS = {"upper": "CARRIER", "mixed": "cArrieR", "before": " Carrier", "behind": "Carrier  "}
-# A certificate that takes OpenSSL half a second to read: its key is on a curve of its own, over the prime 141 * 2^640 + 1.
-SLOW = ("MIICizCCAnCgAwIBAgIBAjAKBggqhkjOPQQDAjAMMQowCAYDVQQDDAF4MB4XDTI1MDEwMTAwMDAwMFoXDTM1MDEwMTAwMDAwMFowDDEKMAgGA1UEAwwBeDCCAhwwggHDBg"
-        "cqhkjOPQIBMIIBtgIBATBdBgcqhkjOPQEBAlIAjQAAAAAAAAAAAAAAAAAAAAAAAAAAAAAAAAAAAAAAAAAAAAAAAAAAAAAAAAAAAAAAAAAAAAAAAAAAAAAAAAAAAAAAAAAA"
-        "AAAAAAAAAAAAAAABMIGmBFEAAAAAAAAAAAAAAAAAAAAAAAAAAAAAAAAAAAAAAAAAAAAAAAAAAAAAAAAAAAAAAAAAAAAAAAAAAAAAAAAAAAAAAAAAAAAAAAAAAAAAAAAAAA"
-        "EEUQAAAAAAAAAAAAAAAAAAAAAAAAAAAAAAAAAAAAAAAAAAAAAAAAAAAAAAAAAAAAAAAAAAAAAAAAAAAAAAAAAAAAAAAAAAAAAAAAAAAAAAAAAAAQRSAnsDMS6tIikwrpFY"
-        "1KifA7xaTe5IErFhB/G+Q3x7psr0o0ECOu1U7xJaJb2mWZmGSOAT1TFvMsMkRKSMHVyh/rYknfICXwv3pL3EWCcvSY2/qAJSAI0AAAAAAAAAAAAAAAAAAAAAAAAAAAAAAA"
-        "AAAAAAAAAAAAAAAAAAAAAAAAAAAAAAAAAAAAAAAAAAAAAAAAAAAAAAAAAAAAAAAAAAAAAAAAAAAQIBAQNTAAKKF2qLUYNVznOth+UNH28XoMAsu3zfVPpQICHcLDZpJlqC"
-        "nBFym7M7jGd2an8/Ckg6iN+MZ140+B39btyRlmqT4XC6kPDmTVKgmJBiUULBJ4wwCgYIKoZIzj0EAwIDCQAwBgIBAQIBAQ==")
+# What TLS answers to what it does not take: a record of an alert, illegal_parameter.
+ILLEGAL = bytes.fromhex("1503030002022f")
 WAITS = f"/transactions/{'ab' * 32}?wait=600"
 
 
@@ -87,20 +81,15 @@ async def serve(folder):
     await made.access.end_gone()
 
 
+def block(text: bytes) -> bytes:
+    """As TLS spells what has a length of two bytes."""
+    return len(text).to_bytes(2, "big") + text
+
+
 def free_ports():
     with contextlib.ExitStack() as opened:
         found = [opened.enter_context(socket.create_server(("127.0.0.1", 0))) for _ in range(2)]
         return [it.getsockname()[1] for it in found]
-
-
-@functools.cache
-def guard() -> pathlib.Path:
-    """What the units load beside OpenSSL, as the Makefile makes it."""
-    room = tempfile.TemporaryDirectory()
-    unittest.addModuleCleanup(room.cleanup)
-    made, flags = pathlib.Path(room.name) / "certificates.so", ["-shared", "-fPIC", "-O2", "-Wall", "-Wextra", "-Werror"]
-    subprocess.run(["clang", *flags, "-o", made, support.ROOT / "node/certificates.c"], check=True)
-    return made
 
 
 @unittest.skipUnless(shutil.which("haproxy", path="/usr/sbin") and shutil.which("clang"), "no haproxy, or no clang")
@@ -140,7 +129,7 @@ class Doors(unittest.TestCase):
     @classmethod
     def begin_proxy(cls, settings: pathlib.Path, port: int, page: int) -> subprocess.Popen:
         places = {"LISTEN": f"127.0.0.1:{port}", "PAGE": f"127.0.0.1:{page}", "SETTINGS": str(cls.room), "SOCKETS": str(cls.room)}
-        return cls.begin(["/usr/sbin/haproxy", "-db", "-f", settings], {**places, "LD_PRELOAD": str(guard())})
+        return cls.begin(["/usr/sbin/haproxy", "-db", "-f", settings], {**places, "LD_PRELOAD": str(support.preload())})
 
     @classmethod
     def begin(cls, command: list, env: dict[str, str] | None = None) -> subprocess.Popen:
@@ -273,7 +262,7 @@ class Doors(unittest.TestCase):
     def chain(self, count: int) -> pathlib.Path:
         """A stranger's certificate with so many slow ones behind it."""
         made = self.room / f"chain{count}.pem"
-        made.write_text((self.room / "stranger.pem").read_text() + count * ssl.DER_cert_to_PEM_cert(base64.b64decode(SLOW)))
+        made.write_text((self.room / "stranger.pem").read_text() + count * ssl.DER_cert_to_PEM_cert(base64.b64decode(support.SLOW)))
         return made
 
     def processor(self) -> float:
@@ -309,9 +298,21 @@ class Doors(unittest.TestCase):
                  "try:\n    tls.wrap_socket(socket.create_connection(('127.0.0.1', int(sys.argv[2]))), server_hostname='127.0.0.1')\n" \
                  "except OSError as error:\n    print(error, time.process_time() - began)"
         words = [sys.executable, "-c", script, str(self.room / "stranger.pem"), str(at.getsockname()[1])]
-        said = subprocess.run(words, env={**os.environ, "LD_PRELOAD": str(guard())}, stdout=subprocess.PIPE, text=True, check=True).stdout
+        said = subprocess.run(words, env={**os.environ, "LD_PRELOAD": str(support.preload())}, stdout=subprocess.PIPE, text=True, check=True).stdout
         self.assertIn("ASN1 lib", said)
         self.assertLess(float(said.split()[-1]), 0.3, said)
+
+    def test_a_stranger_names_few_groups(self):
+        """OpenSSL compares each share of a key with each group that is named: 64 KB take it 100 million comparisons."""
+        groups = b"\0\x1d" + b"\xfe\0" * 16_200 + b"\x12\x34"
+        parts = {43: b"\2\3\4", 13: block(b"\4\3\x08\4"), 10: block(groups), 51: block(b"\x12\x34\0\1\1" * 6_400)}
+        said = b"\3\3" + bytes(33) + block(b"\x13\1") + b"\1\0" + block(b"".join(number.to_bytes(2, "big") + block(it) for number, it in parts.items()))
+        hello, before = b"\1" + len(said).to_bytes(3, "big") + said, self.processor()
+        for _ in range(10):
+            with self.connect(port=self.port) as at:
+                at.sendall(b"".join(b"\x16\3\1" + block(hello[it:it + 16_384]) for it in range(0, len(hello), 16_384)))
+                self.assertEqual(at.recv(100), ILLEGAL)
+        self.assertLess(self.processor() - before, 0.3)
 
     def test_no_session_is_taken_up_again(self):
         at = self.connect("alice")

@@ -36,6 +36,13 @@ class Paces(unittest.IsolatedAsyncioTestCase):
             self.clock.now += 0.3
         self.assertEqual(set(self.clock.slept), {0.0})
 
+    async def test_who_begins_with_the_machine_has_its_burst(self) -> None:
+        self.clock.now = 0.0
+        turns = Pace()
+        for _ in range(pace.BURST):
+            await turns.turn()
+        self.assertEqual(set(self.clock.slept), {0.0})
+
     async def test_a_node_under_full_load_stays_below_its_share_of_a_door(self) -> None:
         turns, began, count = Pace(), self.clock.now, 0
         while self.clock.now < began + 3600:

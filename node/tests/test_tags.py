@@ -31,7 +31,8 @@ class Endorsed(unittest.IsolatedAsyncioTestCase):
         self.keys = Keys(str(self.genesis))
 
     async def faults(self, answers: dict, own: dict | None = None) -> dict[str, str]:
-        gateway = mock.Mock()
+        gateway = mock.Mock(is_own=lambda *said: Gateway.is_own(gateway, *said))
+        gateway.config.organisation, gateway.chain.keys = "Maker", self.keys
         gateway.chain.standing = lambda: self.keys.at(self.peer, 0)
         return await Gateway.faults(gateway, CALL, answers, own)
 
@@ -46,6 +47,12 @@ class Endorsed(unittest.IsolatedAsyncioTestCase):
         self.assertEqual(await self.faults({"Depot": right}), {"Depot": not_right})
         other_call = {**right, "payload": right["payload"].replace(b"pallet-7".hex(), b"pallet-8".hex())}
         self.assertEqual(await self.faults({"Carrier": other_call}), {"Carrier": "its payload is that of another call"})
+
+    async def test_what_the_own_peer_signs_by_a_key_of_today_is_not_looked_at(self):
+        signed = {**self.answers["Maker"], "endorsement": "00"}
+        self.assertEqual(await self.faults({"Maker": signed}), {})
+        not_right = {"Maker": "its endorsement is not by the key by which it stands"}
+        self.assertEqual(await self.faults({"Maker": {**signed, "height": 1}}), not_right)
 
     async def test_a_signature_is_of_one_ledger(self):
         text, not_right = self.genesis.read_bytes(), "its endorsement is not by the key by which it stands"
