@@ -5,7 +5,7 @@ use Rattle.ledger_model.specs.Chain.{Bytes, Chain}
 use Rattle.id_runs.proofs.OneOrder.{one_order}
 use Rattle.world_state.specs.Kept.{Kept}
 use Rattle.kept_state.proofs.Growing.{found_kept}
-use Rattle.checkpoint.specs.Checkpoint.{IsKeptInOrder, IsCheckpointOf, checkpoint_bytes, records_size}
+use Rattle.checkpoint.specs.Checkpoint.{IsKeptInOrder, IsCheckpointOf, checkpoint_bytes, sizes_of}
 
 -- in order it is kept in one way
 same_kept : (chain : Chain) (one two : Kept) → IsKeptInOrder one chain → IsKeptInOrder two chain → one ≡ two
@@ -23,4 +23,4 @@ same_kept chain one two a b =
 pub one_spelling : (genesis : Bytes) (chain : Chain) (bytes other : Bytes) → IsCheckpointOf genesis bytes chain → IsCheckpointOf genesis other chain →
     bytes ≡ other
 one_spelling genesis chain bytes other a b =
-    a.2 ∙ ap (λ (kept : Kept). checkpoint_bytes genesis kept _ (records_size chain)) (same_kept chain a.0 b.0 a.1 b.1) ∙ sym b.2
+    a.2 ∙ ap (λ (kept : Kept). checkpoint_bytes genesis kept (sizes_of chain)) (same_kept chain a.0 b.0 a.1 b.1) ∙ sym b.2

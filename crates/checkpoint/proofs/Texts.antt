@@ -13,10 +13,6 @@ all_made P make [] all = tt
 all_made P make (x ∷ xs) all = (all.0, all_made P make xs all.1)
 
 -- one part behind the other
-pub six_parts : (t a b c d e f : List ℕ) → t ++ a ++ b ++ c ++ d ++ e ++ f ≡ t ++ (a ++ b ++ c ++ d ++ e ++ f)
-six_parts t a b c d e f =
-    ap (λ (x : List ℕ). x ++ c ++ d ++ e ++ f) (append_assoc t a b)
-    ∙ ap (λ (x : List ℕ). x ++ d ++ e ++ f) (append_assoc t (a ++ b) c)
-    ∙ ap (λ (x : List ℕ). x ++ e ++ f) (append_assoc t (a ++ b ++ c) d)
-    ∙ ap (λ (x : List ℕ). x ++ f) (append_assoc t (a ++ b ++ c ++ d) e)
-    ∙ append_assoc t (a ++ b ++ c ++ d ++ e) f
+pub four_parts : (t a b c d : List ℕ) → t ++ a ++ b ++ c ++ d ≡ t ++ (a ++ b ++ c ++ d)
+four_parts t a b c d =
+    ap (λ (x : List ℕ). x ++ c ++ d) (append_assoc t a b) ∙ ap (λ (x : List ℕ). x ++ d) (append_assoc t (a ++ b) c) ∙ append_assoc t (a ++ b ++ c) d

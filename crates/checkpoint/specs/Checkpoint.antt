@@ -1,9 +1,9 @@
 -- The bytes of a checkpoint: what is kept of a chain behind its last block.
-use Rattle.std.specs.Prelude.{◌≡◌, ℕ, ◌-◌, List, ◌++◌, Option, codes, length, take}
+use Rattle.std.specs.Prelude.{◌≡◌, ℕ, List, ◌++◌, Option, codes, length, map}
 use Rattle.std.specs.FinMap.{entries}
 use Rattle.std.specs.Int.{Width, w32, w64, to_be_bytes}
 use Rattle.std.specs.Io.KnownBytes.{Appends}
-use Rattle.std.specs.List.{flat_map}
+use Rattle.std.specs.List.{flat_map, zip}
 use Rattle.sha2.specs.Sha256.{sha256}
 use Rattle.fab_types.specs.Spelling.{short_bytes, long_bytes, membership_bytes, version_bytes}
 use Rattle.fab_types.specs.declared.membership.Membership.{Membership}
@@ -34,26 +34,29 @@ kept_entry_bytes e = short_bytes e.0 ++ long_bytes e.1.0 ++ version_bytes e.1.1
 abbrev pub placed_id_bytes : Bytes × ℕ → Bytes
 placed_id_bytes e = e.0 ++ to_be_bytes w32 e.1
 
--- The form, the digest of the genesis file, the height, the hash that the next header names, and where the last record of a store begins and ends.
-abbrev pub head_bytes : (genesis : Bytes) → Kept → (begin end : ℕ) → Bytes
-head_bytes genesis kept begin end =
-    form_bytes ++ genesis ++ to_be_bytes w32 kept.height ++ kept.link ++ to_be_bytes w64 begin ++ to_be_bytes w64 end
+-- the hash of a block's header, and the length of its record
+abbrev pub sized_hash_bytes : Bytes × ℕ → Bytes
+sized_hash_bytes b = b.0 ++ to_be_bytes w32 b.1
 
--- all before the digest
-abbrev pub checkpoint_body : (genesis : Bytes) → Kept → (begin end : ℕ) → Bytes
-checkpoint_body genesis kept begin end =
-    head_bytes genesis kept begin end
-    ++ counted_bytes w32 (λ hash. hash) kept.hashes
+-- the form, the digest of the genesis file, the height, and the hash that the next header names
+abbrev pub head_bytes : (genesis : Bytes) → Kept → Bytes
+head_bytes genesis kept = form_bytes ++ genesis ++ to_be_bytes w32 kept.height ++ kept.link
+
+-- all before the digest, where the records of the blocks have these lengths
+abbrev pub checkpoint_body : (genesis : Bytes) → Kept → (sizes : List ℕ) → Bytes
+checkpoint_body genesis kept sizes =
+    head_bytes genesis kept
+    ++ counted_bytes w32 sized_hash_bytes (zip kept.hashes sizes)
     ++ counted_bytes w32 amendment_bytes kept.amended
     ++ counted_bytes w64 kept_entry_bytes kept.entries
     ++ counted_bytes w64 placed_id_bytes kept.ids
 
-abbrev pub checkpoint_bytes : (genesis : Bytes) → Kept → (begin end : ℕ) → Bytes
-checkpoint_bytes genesis kept begin end = let body = checkpoint_body genesis kept begin end in body ++ sha256 body
+abbrev pub checkpoint_bytes : (genesis : Bytes) → Kept → (sizes : List ℕ) → Bytes
+checkpoint_bytes genesis kept sizes = let body = checkpoint_body genesis kept sizes in body ++ sha256 body
 
--- how many bytes the records of these blocks have
-abbrev pub records_size : Chain → ℕ
-records_size chain = length (flat_map record_bytes chain)
+-- the lengths of the records of these blocks
+abbrev pub sizes_of : Chain → List ℕ
+sizes_of chain = map (λ c. length (record_bytes c)) chain
 
 -- what is kept of a chain, with all hashes, where entries and ids ascend, within the limits: each chain is kept in one such way
 pub record IsKeptInOrder (kept : Kept) (chain : Chain) : Type 0 where
@@ -66,8 +69,7 @@ pub record IsKeptInOrder (kept : Kept) (chain : Chain) : Type 0 where
 -- bytes that spell what is kept of a chain, behind a genesis file of this SHA-256
 abbrev pub IsCheckpointOf : (genesis bytes : Bytes) → Chain → Type 0
 IsCheckpointOf genesis bytes chain =
-    (kept : Kept) × IsKeptInOrder kept chain
-    × (bytes ≡ checkpoint_bytes genesis kept (records_size (take (length chain - 1) chain)) (records_size chain))
+    (kept : Kept) × IsKeptInOrder kept chain × (bytes ≡ checkpoint_bytes genesis kept (sizes_of chain))
 
 -- a checkpoint of the chain ends in this digest, which is the SHA-256 of all before it
 abbrev pub IsDigestOf : (genesis : Bytes) → Chain → (digest : Bytes) → Type 0

@@ -57,7 +57,11 @@ impl Hashing {
     }
 
     /// Takes one of a list behind the text, and gives the writer a piece that is long enough.
-    fn put_item<T: Item, W: Write>(&mut self, item: &T, out: &mut W) -> Result<(), CheckpointFault>
+    pub(crate) fn put_item<T: Item, W: Write>(
+        &mut self,
+        item: &T,
+        out: &mut W,
+    ) -> Result<(), CheckpointFault>
         ensures text { OnOk result
             ((old : Option (List ℕ)) (text : List ℕ) →
             IsSoFar old (W.contents out.old) self.old text →

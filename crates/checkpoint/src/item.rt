@@ -3,7 +3,7 @@
 ghost use Rattle.std.specs.Prelude.{◌≡◌, ◌++◌, List, ℕ, OnOk};
 ghost use Rattle.std.specs.Map.Iter.{deref_pair};
 ghost use Rattle.fab_types.specs.Spelling.{long_bytes};
-ghost use Rattle.checkpoint.specs.Checkpoint.{amendment_bytes, kept_entry_bytes, placed_id_bytes};
+ghost use Rattle.checkpoint.specs.Checkpoint.{amendment_bytes, kept_entry_bytes, placed_id_bytes, sized_hash_bytes};
 ghost use Rattle.checkpoint.specs.Within.{IsAmendment, IsHash, IsKeptEntry, IsPlacedId};
 
 use fab_types::{Key, Spelled, Value, Version};
@@ -27,14 +27,16 @@ pub(crate) trait Item {
         ensures within { OnOk result (within self.now) };
 }
 
-/// The hash of a header.
-impl Item for [u8; 32] {
-    ghost spelling = { λ hash. hash };
+/// The hash of a block's header, and the length of its record.
+impl Item for (&[u8; 32], u64) {
+    ghost spelling = { λ b. sized_hash_bytes (b.0.now, b.1) };
 
-    ghost within = { IsHash };
+    ghost within = { λ b. IsHash b.0.now };
 
     fn write(&self, out: &mut Vec<u8>) -> Result<(), AllocError> {
-        out.extend_from_slice(self)
+        let (hash, size) = self;
+        out.extend_from_slice(*hash)?;
+        out.extend_from_slice(&size.to_be_bytes()[4..])
     }
 }
 

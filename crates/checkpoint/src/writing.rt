@@ -1,17 +1,16 @@
 //! Writing a checkpoint.
 
-ghost use Rattle.std.specs.Prelude.{◌≡◌, ◌<◌, ◌^◌, ◌++◌, ◌-◌, List, ℕ, IfOk, Option, OnOk, length, map, take};
+ghost use Rattle.std.specs.Prelude.{◌≡◌, ◌<◌, ◌≤◌, ◌+◌, ◌^◌, ◌++◌, List, ℕ, IfOk, Option, OnOk, drop, length, map, slice_index};
 ghost use Rattle.std.specs.Int.{w32, w64, to_be_bytes};
 ghost use Rattle.std.specs.FinMap.{entries};
-ghost use Rattle.std.specs.List.{AllByRecursion, flat_map};
+ghost use Rattle.std.specs.List.{AllByRecursion, flat_map, zip};
 ghost use Rattle.std.specs.Map.Iter.{deref_pair};
 ghost use Rattle.ledger_model.specs.Chain.{Chain};
 ghost use Rattle.kept_state.specs.Keeping.{IsKept, chain_of};
 ghost use Rattle.persist_map.specs.Pages.{shared};
-ghost use Rattle.store_devices.specs.Places.{ends_of, span_at};
-ghost use Rattle.world_state.specs.Kept.{Kept};
+ghost use Rattle.store_devices.specs.Places.{ends_of};
 ghost use Rattle.world_state.specs.Writing.{as_state};
-ghost use Rattle.checkpoint.specs.Checkpoint.{IsDigestOf, Writes, amendment_bytes, counted_bytes, head_bytes, kept_entry_bytes, placed_id_bytes, records_size};
+ghost use Rattle.checkpoint.specs.Checkpoint.{IsDigestOf, Writes, amendment_bytes, counted_bytes, head_bytes, kept_entry_bytes, placed_id_bytes, sized_hash_bytes, sizes_of};
 ghost use Rattle.checkpoint.specs.Hashing.{IsSoFar};
 ghost use Rattle.checkpoint.specs.Within.{IsAmendment, IsHash, IsKeptEntry, IsPlacedId};
 
@@ -47,9 +46,8 @@ pub fn write_checkpoint<W: Write>(
 {
     let state = chain.state();
     let mut hashing = Hashing::new(alloc);
-    let span = last_span(places, state.height());
-    put_head(&mut hashing, genesis, state, span)?;
-    put_hashes(&mut hashing, state.hashes(), out)?;
+    put_head(&mut hashing, genesis, state)?;
+    put_hashes(&mut hashing, state.hashes(), places, out)?;
     put_amendments(&mut hashing, state.amendments(), out)?;
     put_entries(alloc, &mut hashing, state.map(), out)?;
     let ids = state.ids_in_order(alloc)?;
@@ -77,36 +75,32 @@ fn count_of(len: usize) -> [u8; 8]
     (len as u64).to_be_bytes()
 }
 
-/// Where the last record begins and ends; 0 and 0 where there is none.
-fn last_span(places: &Places, height: u32) -> (u64, u64)
-    ensures { (chain : Chain) → places.now ≡ ends_of chain → height ≡ length chain →
-        (result.0 ≡ records_size (take (length chain - 1) chain))
-        × (result.1 ≡ records_size chain) }
+/// How many bytes the record has before which so many others stand; 0 where there is none.
+fn size_at(places: &Places, before: usize) -> u64
+    requires { before + 1 < 2 ^ 64 }
+    ensures { (chain : Chain) → places.now ≡ ends_of chain → before < length chain →
+        length chain < 2 ^ 32 → result ≡ slice_index (sizes_of chain) before }
 {
-    match places.span(height) {
-        Some(span) => span,
-        None => (0, 0),
+    let Ok(number) = u32::try_from(before + 1) else {
+        return 0;
+    };
+    match places.span(number) {
+        Some((begin, end)) => end.saturating_sub(begin),
+        None => 0,
     }
 }
 
 /// Takes the head behind the text.
-fn put_head(
-    hashing: &mut Hashing,
-    genesis: &[u8; 32],
-    state: &State,
-    span: (u64, u64),
-) -> Result<(), AllocError>
+fn put_head(hashing: &mut Hashing, genesis: &[u8; 32], state: &State) -> Result<(), AllocError>
     ensures text { OnOk result
         ((old now : Option (List ℕ)) (text : List ℕ) → IsSoFar old now hashing.old text →
-        IsSoFar old now hashing.new (text ++ head_bytes genesis.now state.now span.0 span.1)) }
-    ensures within { OnOk result (IsHash (state.now).link) }
+        IsSoFar old now hashing.new (text ++ head_bytes genesis.now state.now)) }
+    ensures within { OnOk result (((state.now).height < 2 ^ 32) × IsHash (state.now).link) }
 {
     hashing.put(b"ckpt\x00\x00\x00\x01")?;
     hashing.put(genesis)?;
     hashing.put(&state.height().to_be_bytes())?;
-    hashing.put(&state.link())?;
-    hashing.put(&span.0.to_be_bytes())?;
-    hashing.put(&span.1.to_be_bytes())
+    hashing.put(&state.link())
 }
 
 /// Takes a list behind the text, and its count before it.
@@ -127,23 +121,52 @@ fn put_listed<T: Item, W: Write>(
     hashing.put_each(items, out)
 }
 
-/// Takes the hashes of headers behind the text.
+/// Takes the hashes of headers behind the text, each with the length of the block's record.
 fn put_hashes<W: Write>(
     hashing: &mut Hashing,
     hashes: &VecDeque<[u8; 32]>,
+    places: &Places,
     out: &mut W,
 ) -> Result<(), CheckpointFault>
     ensures text { OnOk result
-        ((old : Option (List ℕ)) (text : List ℕ) →
+        ((chain : Chain) → places.now ≡ ends_of chain → length hashes.now.items ≡ length chain →
+        length chain < 2 ^ 32 → (old : Option (List ℕ)) (text : List ℕ) →
         IsSoFar old (W.contents out.old) hashing.old text →
         IsSoFar old (W.contents out.new) hashing.new
-        (text ++ counted_bytes w32 (λ hash. hash) hashes.now.items)) }
+        (text ++ counted_bytes w32 sized_hash_bytes (zip hashes.now.items (sizes_of chain)))) }
     ensures within { OnOk result (AllByRecursion IsHash hashes.now.items) }
 {
     let (front, back) = hashes.as_slices();
     let count = count_of(hashes.len());
-    put_listed(hashing, &count[4..], front, out)?;
-    hashing.put_each(back, out)
+    hashing.put(&count[4..])?;
+    put_sized(hashing, front, places, 0, out)?;
+    put_sized(hashing, back, places, front.len(), out)
+}
+
+/// Takes the hashes of headers behind the text, each with the length of the block's record. So many
+/// blocks stand before the first of them.
+fn put_sized<W: Write>(
+    hashing: &mut Hashing,
+    hashes: &[[u8; 32]],
+    places: &Places,
+    before: usize,
+    out: &mut W,
+) -> Result<(), CheckpointFault>
+    requires { before + length hashes.now < 2 ^ 64 }
+    ensures text { OnOk result
+        ((chain : Chain) → places.now ≡ ends_of chain →
+        before + length hashes.now ≤ length chain → length chain < 2 ^ 32 →
+        (old : Option (List ℕ)) (text : List ℕ) →
+        IsSoFar old (W.contents out.old) hashing.old text →
+        IsSoFar old (W.contents out.new) hashing.new
+        (text ++ flat_map sized_hash_bytes (zip hashes.now (drop before (sizes_of chain))))) }
+    ensures within { OnOk result (AllByRecursion IsHash hashes.now) }
+{
+    for (place, hash) in hashes.iter().enumerate() {
+        let size = size_at(places, before + place);
+        hashing.put_item(&(hash, size), out)?;
+    }
+    Ok(())
 }
 
 /// Takes the amendments behind the text.
