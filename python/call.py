@@ -177,7 +177,7 @@ def tell(lines: Iterable[str]) -> None:
 
 
 def endorsers(peer: Peer, asked: Asked, program: str) -> list[str]:
-    """Who is to endorse: those named, or the fewest of those whose keys are at hand that satisfy the policy."""
+    """Who is to endorse: those named, or those whose keys are at hand, less the ones that the policy can spare."""
     check_name(peer, asked, program)
     if peer.answer("satisfied", chaincode=asked.chaincode, orgs=[]) is None:
         # There is no definition that can be used: a simulation says why.
