@@ -29,12 +29,13 @@ install:
 	@install -m 755 $(LEDGER) $(LIB)/ledger_cli
 	@$(CLANG) -shared -fPIC -O2 -Wall -Wextra -Werror -o $(LIB)/node/certificates.so node/certificates.c || \
 		{ echo "node/certificates.c is not compiled: install clang, or name another compiler by CLANG=" >&2; exit 1; }
+	@chmod 644 $(LIB)/node/certificates.so
 	@install -d $(BIN) $(UNITS)
 	@ln -sfn ../lib/regtuma/ledger $(BIN)/ledger
 	@ln -sfn ../lib/regtuma/node/certs.sh $(BIN)/regtuma-certs
 	@ln -sfn ../lib/regtuma/node/change.py $(BIN)/regtuma-change
 	@for name in regtuma regtuma-audit regtuma-log regtuma-node; do ln -sfn ../lib/regtuma/node/bin/$$name $(BIN)/$$name || exit 1; done
-	@for unit in node/systemd/*; do sed 's|/usr/local|$(PREFIX)|g' $$unit > $(UNITS)/$$(basename $$unit) || exit 1; done
+	@for unit in node/systemd/*; do sed 's|/usr/local|$(PREFIX)|g' $$unit | install -m 644 /dev/stdin $(UNITS)/$$(basename $$unit) || exit 1; done
 	@install -d $(dir $(COMPLETION)) $(dir $(MAN))
 	@./ledger completion bash > $(COMPLETION) && ./ledger man > $(MAN) && chmod 644 $(COMPLETION) $(MAN)
 	@echo "installed below $(DESTDIR)$(PREFIX)"

@@ -38,8 +38,10 @@ class Installing:
 
 def try_installing(report: Report, tree: pathlib.Path, room: pathlib.Path, env: dict[str, str]) -> None:
     at = Installing(report, tree, room, env)
-    ran = at.run("make", "-C", tree, "install", f"DESTDIR={at.root}", f"LEDGER={program()}")
+    ran = at.run("sh", "-c", 'umask 077 && exec "$@"', "sh", "make", "-C", tree, "install", f"DESTDIR={at.root}", f"LEDGER={program()}")
     if at.case("make install", ran.status == 0, ran):
+        closed = [str(it) for it in at.root.rglob("*") if not it.is_symlink() and not it.stat().st_mode & stat.S_IROTH]
+        report.case("everybody reads what was installed, whatever the umask", not closed, ", ".join(closed))
         try_installed(at)
         try_units(at)
     ran = at.run("make", "-C", tree, "install", f"DESTDIR={at.root}/none", "LEDGER=none")
