@@ -174,7 +174,7 @@ class Operating:
         self.well()
 
     def lose_etcd(self) -> None:
-        """All of etcd is thrown away, with the Carrier's store, and filled again from a copy of the Maker's."""
+        """All of etcd is thrown away, with the Carrier's store. The log goes on behind the Maker's, of which the Carrier gets a copy."""
         self.maker.type(self.report, *self.block("cp /var/lib/regtuma/chain.store"))
         for machine in self.machines:
             machine.stop("regtuma-node", "regtuma-etcd")
@@ -183,6 +183,8 @@ class Operating:
         (self.carrier.root / "var/lib/regtuma/chain.store").unlink()
         self.begin_etcd()
         self.maker.type(self.report, *self.block("systemctl stop regtuma-node regtuma-door"))
+        (self.carrier.etc / "longest.store").write_bytes(before)
+        self.carrier.type(self.report, *self.block("cp longest.store"))
         for machine in (self.carrier, self.shop):
             machine.run("systemctl", "start", "regtuma-node")
         self.maker.type(self.report, *self.block("systemctl start regtuma-door regtuma-node"))

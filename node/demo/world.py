@@ -284,6 +284,11 @@ class World:
         wait_until("etcd has a leader", is_led)
         return next(org for org, it in zip(self.voters, said) if it["leader"] == it["header"]["member_id"])
 
+    def space(self) -> int:
+        """How many bytes the Maker's member of etcd has in use."""
+        said = self.etcdctl("endpoint", "status", "-w", "json", user="root")
+        return json.loads(next(it for it in said.stdout.splitlines() if it.startswith("[")))[0]["Status"]["dbSizeInUse"]
+
     # ---------------------------------------------------------------- nodes
 
     def log(self, place: str, *words: object, check: bool = True) -> bytes:

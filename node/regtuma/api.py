@@ -112,7 +112,7 @@ class Api:
                     *(f"{it} used up the id of a call of ours, and is asked to endorse only if no others will do"
                       for it in sorted(self.chain.origins.blamed))]
         if self.chain.entries > MANY_ENTRIES:
-            warnings.append(f"the log has {self.chain.entries:,} entries, so that a node takes minutes to start: refill it")
+            warnings.append(f"the log has {self.chain.entries:,} entries, so that a node takes minutes to start: renew it")
         return [it for it in warnings if it]
 
     def plan_warning(self) -> str:

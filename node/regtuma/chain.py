@@ -4,6 +4,7 @@
 """
 import asyncio
 import collections
+import contextlib
 import dataclasses
 import json
 import secrets
@@ -13,12 +14,12 @@ from typing import Any, NamedTuple
 
 from .config import Config
 from .entries import ENTRY_CHARACTERS, ENTRY_LINES, Entry, Lines, Log, LogError
-from .filters import FilterEnded
 from .journal import Quota
 from .origins import Origins
 from .pace import EACH, ENTRIES_APART, Pace, apart, pace_of_bytes
 from .peer import Peer
 from .proposals import Refused
+from .renewal import Renewal, marks_of
 from .tags import Key, Keys
 from .times import Times
 from .turns import Turns
@@ -57,19 +58,16 @@ class Asking:
 class Chain:
     def __init__(self, config: Config, log: Log, say: Callable[[str], None]):
         self.config, self.log, self.say = config, log, say
-        ledger = config.ledger
-        options = [word for it in ("keys", "modules") if (file := getattr(ledger, it)) for word in (f"--{it}", file)]
-        command = [ledger.program, "peer", ledger.genesis, ledger.store, "--org", config.organisation, *options]
-        self.peer = Peer(command, self.hear, say)
+        self.peer = Peer(config.peer_command(), self.hear, say)
         # How many blocks the store has, and the transactions of the next one that the peer has told of.
         self.height, self.grown = 0, asyncio.Condition()
         self.told: list[list[str]] = []
-        self.keys = Keys(ledger.genesis)
+        self.keys = Keys(config.ledger.genesis)
         # Who has another block, as long as nobody has looked into it: nothing is endorsed or put meanwhile.
         self.forked: str | None = None
         self.lies: dict[str, Quota] = {}
         # What was looked into: an organisation, and what it says of a block; or the organisation whole.
-        self.past_forks = frozenset(ledger.past_forks)
+        self.past_forks = frozenset(config.ledger.past_forks)
         # When the log was seen last to take entries.
         self.led = time.monotonic()
         # This organisation's part of the log, and what of the log counts.
@@ -106,13 +104,8 @@ class Chain:
 
     async def start(self) -> None:
         """Begins the peer, and waits until the store is read."""
-        await self.peer.start()
-        while not (line := await self.peer.line()).startswith("height"):
-            if line.startswith("refused"):
-                raise FilterEnded(f"{self.peer.name} says: {line}")
-            self.say(f"{self.peer.name}: {line}")
-        self.height = int(line.split()[1])
-        self.say(line)
+        self.height = await self.peer.begin()
+        self.say(f"height {self.height}")
         self.lines = Lines.by(self.config.ledger.genesis)
         self.times = Times(self.config.ledger.store + ".times")
 
@@ -152,11 +145,40 @@ class Chain:
     async def feed(self) -> None:
         """Hands the lines of the log that count to the peer."""
         async for entries in self.log.watch():
-            made = [line for it in entries for line in self.counted(it)]
-            self.given += len(made)
-            await self.peer.log(made)
-            self.revision = entries[-1].revision
-            self.entries += len(entries)
+            if not self.entries:
+                first = entries.pop(0)
+                await self.hand_on([first])
+                await self.go_behind(first)
+            await self.hand_on(entries)
+
+    async def hand_on(self, entries: list[Entry]) -> None:
+        await self.give([line for it in entries for line in self.counted(it)])
+        self.revision = self.lines.revision
+        self.entries += len(entries)
+
+    async def give(self, lines: list[bytes]) -> None:
+        self.given += len(lines)
+        await self.peer.log(lines)
+
+    async def go_behind(self, first: Entry) -> None:
+        """Where a renewed log begins, hands on the marks of the blocks of which it has none: the store has them."""
+        renewal = Renewal.of(first.value) if self.lines.has_lines else None
+        if renewal is None:
+            return
+        await self.look_at_renewal(renewal, first.name.split(b"/")[0].decode())
+        async with contextlib.aclosing(marks_of(self.config.ledger, renewal.number)) as told:
+            async for marks in told:
+                await self.give(self.lines.filled(marks))
+        self.lines.end_refill()
+
+    async def look_at_renewal(self, renewal: Renewal, renewer: str) -> None:
+        """Ends the node whose store does not have the block that a renewed log goes on behind."""
+        store, behind = self.config.ledger.store, f"{renewer} has renewed the log behind block {renewal.number}"
+        if self.height < renewal.number:
+            raise LogError(f"{behind}, and {store} has {self.height} blocks: put a copy of {renewer}'s store in its place")
+        said, _ = await self.peer.answer_to("seen", str(renewal.number))
+        if renewal.hash not in said.split(" ")[3:4]:
+            raise LogError(f"{behind} with the hash {renewal.hash}, and {store} has another one: compare its hash with each organisation")
 
     def counted(self, entry: Entry) -> list[bytes]:
         """The lines of an entry that count. Who waits for one that does not is told."""

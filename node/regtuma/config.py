@@ -103,6 +103,12 @@ class Config:
     def organisations(self) -> list[str]:
         return [self.organisation, *self.nodes] if self.is_local else list(self.authorities)
 
+    def peer_command(self) -> list[str]:
+        """The command of the organisation's peer, over the node's store."""
+        ledger = self.ledger
+        options = [word for it in ("keys", "modules") if (file := getattr(ledger, it)) for word in (f"--{it}", file)]
+        return [ledger.program, "peer", ledger.genesis, ledger.store, "--org", self.organisation, *options]
+
     def log(self) -> Log:
         if self.is_local:
             return FileLog(self.log_file)

@@ -186,6 +186,14 @@ class Lines:
         self.lines += text.count(b"\n") // 2
         return found
 
+    def filled(self, marks: list[bytes]) -> list[bytes]:
+        """The lines of marks that a node takes from its own store, behind the first entry of a renewed log: they count as a refill's do."""
+        return list(self.of(Entry(self.revision, self.refill, b"\n".join(marks))).values())
+
+    def end_refill(self) -> None:
+        """No further entry is a refill's."""
+        self.refill = b""
+
     def _part(self, name: bytes) -> bytes | None:
         """Whose share bears what an entry of this name brings about, if it is anybody's part."""
         found = PART.match(name)

@@ -33,6 +33,15 @@ class Peer(Asked):
         # How many blocks were not read back from the store, and what was said of the last one.
         self.lost, self.why_lost = 0, ""
 
+    async def begin(self) -> int:
+        """Begins it, and waits until the store is read. How many blocks that has."""
+        await self.start()
+        while not (line := await self.line()).startswith("height"):
+            if line.startswith("refused"):
+                raise FilterEnded(f"{self.name} says: {line}")
+            self.say(f"{self.name}: {line}")
+        return int(line.split()[1])
+
     async def log(self, lines: list[bytes]) -> None:
         """Hands on lines of the log, each an index and a text, and waits where the program is behind."""
         for place in range(0, len(lines), AT_ONCE):

@@ -331,7 +331,7 @@ class Health(Case):
 
     async def test_a_log_of_many_entries(self):
         self.chain.entries = 312_000
-        self.assertEqual((await self.get("/healthz"))[1]["warnings"], ["the log has 312,000 entries, so that a node takes minutes to start: refill it"])
+        self.assertEqual((await self.get("/healthz"))[1]["warnings"], ["the log has 312,000 entries, so that a node takes minutes to start: renew it"])
         self.assertIn("\nregtuma_log_entries 312000.0\n", (await self.get("/metrics"))[1])
 
     async def test_waiting_is_measured_by_a_clock_that_never_goes_back(self):
