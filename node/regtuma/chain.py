@@ -174,9 +174,10 @@ class Chain:
     async def look_at_renewal(self, renewal: Renewal, renewer: str) -> None:
         """Ends the node whose store does not have the block that a renewed log goes on behind."""
         store, behind = self.config.ledger.store, f"{renewer} has renewed the log behind block {renewal.number}"
+        # The peer ends before it answers, where the log is of another genesis file.
+        said, _ = await self.peer.answer_to("seen", str(renewal.number))
         if self.height < renewal.number:
             raise LogError(f"{behind}, and {store} has {self.height} blocks: put a copy of {renewer}'s store in its place")
-        said, _ = await self.peer.answer_to("seen", str(renewal.number))
         if renewal.hash not in said.split(" ")[3:4]:
             raise LogError(f"{behind} with the hash {renewal.hash}, and {store} has another one: compare its hash with each organisation")
 

@@ -46,8 +46,8 @@ async def last_block(config: Config) -> Renewal | None:
         if (height := await peer.begin()) == 0:
             return None
         await peer.write(b"seen last %d\n" % height)
-        *_, hash_ = (await peer.line()).split(" ")[:7]
-        return Renewal(height, hash_)
+        # answer last HEIGHT seen ORG HEIGHT HASH, and perhaps a signature
+        return Renewal(height, (await peer.line()).split(" ")[6])
     finally:
         await peer.close()
 

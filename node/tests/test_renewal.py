@@ -108,7 +108,8 @@ class Nodes(Case):
     async def fed(self, *entries, height=2, said=HASH, marks=MARKS, behind="exit 0"):
         """What the peer is handed on of a log, where the store has so many blocks, and this hash of the last one."""
         self.config.ledger.program = self.program("\n".join(f"echo {it}" for it in marks) + f"\n{behind}")
-        self.chain, self.peer = Chain(self.config, Watched(*entries), self.said.append), Heard(f"seen Maker 2 {said} 00")
+        self.chain = Chain(self.config, Watched(*entries), self.said.append)
+        self.peer = Heard(*([f"seen Maker 2 {said} 00"] if said is not None else []))
         self.chain.peer, self.chain.height = self.peer, height
         await self.chain.feed()
         return [it.decode() for it in self.peer.handed_on]
@@ -138,6 +139,10 @@ class Nodes(Case):
             await self.fed(("Maker/genesis", FIRST), height=1)
         self.assertEqual(str(raised.exception), f"Maker has renewed the log behind block 2, and {store} has 1 blocks:"
                                                 " put a copy of Maker's store in its place")
+
+    async def test_a_peer_that_ends_by_another_genesis_file_is_told_first(self):
+        with self.assertRaisesRegex(FilterEnded, "^it has ended$"):
+            await self.fed(("Maker/genesis", FIRST), height=1, said=None)
 
     async def test_another_block_ends_the_node(self):
         for said in ("cd" * 32, HASH[1:], ""):
