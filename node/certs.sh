@@ -17,16 +17,18 @@
 # takes the place of the old one, with a new key. What etcd is asked by has no common name, which etcd may take for a user.
 set -eu
 umask 077
-# The lines by which openssl prints the extensions of an authority that makes no other one, sorted, each key's digest as ID.
+# The lines by which openssl prints the version and extensions of an authority that makes no other one, sorted, each key's digest as ID.
 EXTENSIONS="CA:TRUE, pathlen:0
 Certificate Sign, CRL Sign
 ID
 ID
+Version: 3 (0x2)
 X509v3 Authority Key Identifier:
 X509v3 Basic Constraints: critical
 X509v3 Key Usage: critical
 X509v3 Subject Key Identifier:
 X509v3 extensions:"
+DATE="[A-Z][a-z]{2} [ 0-9][0-9] [0-9]{2}:[0-9]{2}:[0-9]{2} [0-9]{4} GMT"
 
 complain() {
     echo "regtuma-certs: $*" >&2
@@ -120,9 +122,11 @@ is_as_made() { # SUBJECT: whether $certificate has what make_authorities makes, 
     test "$(echo "$names" | sed 's/=PRINTABLESTRING:/=UTF8STRING:/g')" = "subject=$1
 issuer=$1" || return 1
     extensions=$(openssl x509 -in "$work/authority" -noout -text -certopt \
-        no_header,no_version,no_serial,no_signame,no_validity,no_subject,no_issuer,no_pubkey,no_sigdump,no_aux 2> /dev/null |
+        no_header,no_serial,no_signame,no_validity,no_subject,no_issuer,no_pubkey,no_sigdump,no_aux 2> /dev/null |
         sed -E 's/^ *(keyid:)?//; s/ *$//; s/^([0-9A-F]{2}:){19}[0-9A-F]{2}$/ID/' | LC_ALL=C sort)
     test "$extensions" = "$EXTENSIONS" || return 1
+    dates=$(openssl x509 -in "$work/authority" -noout -startdate -enddate 2> /dev/null)
+    test "$(echo "$dates" | grep -c -E -x "not(Before|After)=$DATE")" = 2 || return 1
     openssl x509 -in "$work/authority" -noout -pubkey > "$work/public" 2> /dev/null || return 1
     openssl pkey -pubin -in "$work/public" -pubcheck -noout -text 2> /dev/null | grep -q -x 'ASN1 OID: prime256v1' || return 1
     openssl pkey -pubin -in "$work/public" -pubcheck -noout > "$work/said" 2>&1 || return 1

@@ -3,6 +3,7 @@ import os
 import pathlib
 import re
 import shutil
+import ssl
 import stat
 import subprocess
 
@@ -136,6 +137,19 @@ def try_dist(at: Installing) -> None:
     at.case("the program of the tarball", ran.status == 0 and not ran.err, ran)
 
 
+def sign_anew(certificate: pathlib.Path, old: bytes, new: bytes) -> None:
+    """Gives an authority's certificate other fields, as long as the old ones, by its own signature."""
+    text = ssl.PEM_cert_to_DER_cert(certificate.read_text())
+    # Each of the two sequences has its tag and a length in two bytes before it.
+    end = 8 + int.from_bytes(text[6:8], "big")
+    fields, count = re.subn(old, new, text[4:end])
+    assert count == 1
+    signing = ["openssl", "dgst", "-sha256", "-sign", str(certificate.with_suffix(".key"))]
+    signature = subprocess.run(signing, input=fields, stdout=subprocess.PIPE, check=True).stdout
+    body = fields + text[end:end + 2 + text[end + 1]] + bytes([3, len(signature) + 1, 0]) + signature
+    certificate.write_text(ssl.DER_cert_to_PEM_cert(b"\x30\x82" + len(body).to_bytes(2, "big") + body))
+
+
 def try_certs(at: Installing) -> None:
     """Each certificate is of its organisation's authority, its key its owner's alone; what is no name is refused."""
     certs = at.tree / "node" / "certs.sh"
@@ -179,6 +193,10 @@ def try_certs(at: Installing) -> None:
         at.run("openssl", "req", "-x509", "-newkey", "ec", "-pkeyopt", "ec_paramgen_curve:P-256", "-nodes", "-multivalue-rdn", "-keyout", f"{folder}/etcd.ca.key",
                "-out", f"{folder}/etcd.ca.pem", "-subj", subject, "-addext", f"basicConstraints=critical,CA:true,pathlen:{length}",
                "-addext", "keyUsage=critical,keyCertSign,cRLSign")
+    # A thirteenth month, and another version, which only etcd refuses to read.
+    for folder, old, new in (("dated", rb"(\x17\x0d\d{12}Z\x17\x0d\d\d)..", rb"\g<1>13"), ("numbered", b"\xa0\x03\x02\x01\x02", b"\xa0\x03\x02\x01\x4d")):
+        shutil.copytree(at.certs / "shop", at.certs / folder)
+        sign_anew(at.certs / folder / "etcd.ca.pem", old, new)
     # An organisation's seed, which `ledger keygen` makes beside.
     (at.certs / "maker" / "seed.key").write_text("seed")
     kept = (at.certs / "maker" / "ca.key").read_bytes()
@@ -187,7 +205,8 @@ def try_certs(at: Installing) -> None:
                   ["client", "maker", "Maker", "member"], ["client", "maker", "Maker", "shop.ca"], ["client", "maker", "Maker", "root"],
                   ["client", "maker", "Maker", "proxy"], ["client", "maker", "Maker", "seed"], ["ca", "other", "A-1"],
                   ["ca", "other", "Root"], ["trust", "none", "maker"], ["trust", "maker", "mixed"], ["trust", "maker", "twice"],
-                  ["trust", "maker", "more"], ["trust", "maker", "false"], ["trust", "maker", "named"], ["trust", "maker", "deep"]):
+                  ["trust", "maker", "more"], ["trust", "maker", "false"], ["trust", "maker", "named"], ["trust", "maker", "deep"],
+                  ["trust", "maker", "dated"], ["trust", "maker", "numbered"]):
         ran = at.run(certs, *words)
         at.case(f"refused: {' '.join(words)}", fails_in_words(ran) and ran.err.count("\n") == 1, ran)
     (at.certs / "shop" / "member.ca.key").unlink()
