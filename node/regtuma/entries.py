@@ -69,10 +69,10 @@ class Log(Protocol):
         """The lines of the entry of this name, or none."""
 
     async def is_empty(self) -> bool:
-        """Whether the log has no entry."""
+        """Whether the log has no entry, and never had one."""
 
     async def count(self) -> int:
-        """How many entries the log has."""
+        """How many entries were put into the log, or taken out of it."""
 
     async def is_led(self) -> bool:
         """Whether entries can be put now."""

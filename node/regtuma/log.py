@@ -62,7 +62,7 @@ def entries(marks: Iterable[str]) -> Iterator[list[str]]:
 
 async def check_empty(log: Log) -> None:
     if not await log.is_empty():
-        raise NotDone("the log has begun already: it has entries. A refill or renewal that was stopped wants a new, empty etcd")
+        raise NotDone("the log has begun already: it has, or had, entries. A refill or renewal that was stopped wants a new, empty etcd")
 
 
 async def put_first(log: Log, config: Config, *lines: str) -> str:
@@ -73,7 +73,7 @@ async def put_first(log: Log, config: Config, *lines: str) -> str:
 
 
 async def check_alone(log: Log, count: int) -> None:
-    """Refuses a log that has other entries than so many of this organisation."""
+    """Refuses a log that has, or had, other entries than so many of this organisation."""
     if await log.count() != count:
         raise NotDone("somebody else has put entries meanwhile, so that these blocks would not come out: begin again with a new, empty etcd,"
                       " which no other organisation reaches until it is filled")

@@ -120,6 +120,11 @@ class Folder:
         self.room.cleanup()
 
 
+def changed(count: int) -> tuple[int, dict]:
+    """What etcd says of a log that was changed so many times."""
+    return 200, {"header": {"revision": str(count + 1)}}
+
+
 @functools.cache
 def preload() -> pathlib.Path:
     """What the units load beside OpenSSL, as the Makefile makes it."""

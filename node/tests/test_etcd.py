@@ -183,8 +183,12 @@ class Failures(Case):
             await log.append("Maker/a", ["x"], 0.2)
 
     async def test_a_log_that_has_begun(self):
-        log = await self.log(Node((200, {"header": {}}), (200, {"count": "3"})))
-        self.assertEqual((await log.is_empty(), await log.is_empty()), (True, False))
+        log = await self.log(Node((200, {"header": {"revision": "1"}}), (200, {"header": {"revision": "4"}, "count": "1"})))
+        self.assertEqual((await log.is_empty(), await log.count()), (True, 3))
+
+    async def test_a_log_of_which_an_entry_was_deleted_has_begun(self):
+        log = await self.log(Node((200, {"header": {"revision": "3"}, "count": "0"})))
+        self.assertFalse(await log.is_empty())
 
     async def test_a_watch_that_ends_goes_on_behind_what_was_read(self):
         first, second = Node([told(event(5, "a"))]), Node([told(event(6, "b"))])
@@ -386,8 +390,9 @@ class Liars(Case):
         for said in ({"kvs": 5}, {"kvs": [5]}, {"kvs": {"a": 1}}, {"kvs": [{"value": 5}]}, {"kvs": [{"value": "a"}]}):
             with self.assertRaisesRegex(LogError, "no answer of etcd$"):
                 await (await self.log(Node((200, said)))).read("Maker/a")
-        for said in ({"count": []}, {"count": "x"}, {"count": {}}):
-            self.assertFalse(await (await self.log(Node((200, said)))).is_empty())
+        for said in ({}, {"header": []}, {"header": {}}, {"header": {"revision": "x"}}, {"header": {"revision": {}}}):
+            with self.assertRaisesRegex(LogError, "no answer of etcd$"):
+                await (await self.log(Node((200, said)))).is_empty()
         self.assertFalse(await (await self.log(Node((200, {}), (200, {"errors": {"a": []}})))).is_led())
 
 

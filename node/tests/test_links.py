@@ -171,22 +171,22 @@ class ByHand(unittest.IsolatedAsyncioTestCase):
         return made
 
     async def test_a_log_begins_once(self):
-        with self.assertRaisesRegex(log.NotDone, "^the log has begun already: it has entries."):
-            await log.begin(await self.log((200, {"count": "1"})), self.config, [])
+        with self.assertRaisesRegex(log.NotDone, "^the log has begun already: it has, or had, entries."):
+            await log.begin(await self.log(support.changed(1)), self.config, [])
 
     async def test_marks_go_into_entries_that_cost_no_share(self):
         with mock.patch.object(log, "ENTRY_CHARACTERS", 7):
-            said = await log.begin(await self.log((200, {}), DONE, DONE, NOT_DONE, (200, {"count": "3"})), self.config, ["aabb", "tick", "cc"])
+            said = await log.begin(await self.log(support.changed(0), DONE, DONE, NOT_DONE, support.changed(3)), self.config, ["aabb", "tick", "cc"])
         keys = [it[1]["compare"][0]["key"] for it in self.node.asked[1:-1]]
         self.assertEqual(keys, [base64_of(f"log/{it}") for it in ("Maker/genesis", "Maker/refill-1", "Maker/refill-2")])
         begun = f"the log has begun: its first entry names the genesis file {hashlib.sha256(b'').hexdigest()}"
         self.assertEqual(said, f"{begun}, and 3 marks are behind it in 2 more entries")
-        self.assertEqual(await log.begin(await self.log((200, {}), DONE), self.config, []), begun)
+        self.assertEqual(await log.begin(await self.log(support.changed(0), DONE), self.config, []), begun)
 
     async def test_a_refill_that_somebody_has_broken_is_told(self):
         """What stands between its entries ends it: other blocks would come out."""
         with self.assertRaisesRegex(log.NotDone, "^somebody else has put entries meanwhile, .* begin again with a new, empty etcd"):
-            await log.begin(await self.log((200, {}), DONE, DONE, (200, {"count": "3"})), self.config, ["aabb", "tick"])
+            await log.begin(await self.log(support.changed(0), DONE, DONE, support.changed(3)), self.config, ["aabb", "tick"])
 
     async def test_a_module_has_its_digest(self):
         digest = hashlib.sha256(b"\0asm").hexdigest()

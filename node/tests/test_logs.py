@@ -50,7 +50,7 @@ class Etcd:
     async def range(self, request: web.Request) -> web.Response:
         asked = await request.json()
         found = [it["kv"] for it in self.events] if "range_end" in asked else self.found(asked["key"])
-        return web.json_response({"count": str(len(found)), "kvs": found})
+        return web.json_response({"header": {"revision": str(len(self.events) + 1)}, "kvs": found})
 
     async def status(self, _request: web.Request) -> web.Response:
         return web.json_response({"leader": "1"})

@@ -179,31 +179,31 @@ read line
 
     async def test_it_puts_one_entry(self):
         (self.folder.path / "chain.store").touch()
-        said = await self.renew((200, {}), DONE, (200, {"count": "1"}))
+        said = await self.renew(support.changed(0), DONE, support.changed(1))
         digest = hashlib.sha256(b"").hexdigest()
         self.assertEqual(said, f"the log has begun: its first entry names the genesis file {digest}, and it goes on behind block 2, whose hash is {HASH}")
         put = self.node.asked[1][1]["success"][0]["request_put"]
         self.assertEqual(put, {"key": base64_of("log/Maker/genesis"), "value": base64_of(f"genesis {digest}\nbehind 2 {HASH}")})
 
     async def test_it_wants_an_empty_log(self):
-        with self.assertRaisesRegex(log.NotDone, "^the log has begun already: it has entries."):
-            await self.renew((200, {"count": "1"}))
+        with self.assertRaisesRegex(log.NotDone, "^the log has begun already: it has, or had, entries."):
+            await self.renew(support.changed(1))
 
     async def test_an_entry_of_somebody_else_is_told(self):
         (self.folder.path / "chain.store").touch()
         with self.assertRaisesRegex(log.NotDone, "^somebody else has put entries meanwhile, "):
-            await self.renew((200, {}), DONE, (200, {"count": "2"}))
+            await self.renew(support.changed(0), DONE, support.changed(2))
 
     async def test_a_store_without_a_block_is_told(self):
         for _ in range(2):
             with self.assertRaisesRegex(log.NotDone, "chain.store has no block: `begin` begins the log of a new chain$"):
-                await self.renew((200, {}), script="echo height 0")
+                await self.renew(support.changed(0), script="echo height 0")
             (self.folder.path / "chain.store").touch()
 
     async def test_a_refusal_of_the_peer_is_told(self):
         (self.folder.path / "chain.store").touch()
         with self.assertRaisesRegex(FilterEnded, "^ledger peer says: refused 703$"):
-            await self.renew((200, {}), script="echo refused 703; exit 1")
+            await self.renew(support.changed(0), script="echo refused 703; exit 1")
 
 
 class Chains(test_network.Case):
