@@ -24,7 +24,7 @@ PART = re.compile(rb"([A-Za-z0-9_]{1,32})/")
 TICK, REFILL = re.compile(rb"[A-Za-z0-9_]{1,32}/tick-([1-9][0-9]{0,9})(?:-[0-9a-f]+)?"), b"/refill-"
 # The entry in which an organisation says what its block of a number is.
 SEEN = re.compile(rb"([A-Za-z0-9_]{1,32})/seen-([1-9][0-9]{0,9})")
-# The bytes of the shortest envelope, by the table of docs/RULES.md, "Bytes of the ledger": of a call whose name has one byte, behind its
+# The bytes of the shortest envelope, by docs/RULES.md, "Bytes of the ledger": of a call whose name has one byte, behind its
 # length, without argument (the two bytes of its length), with a nonce, without result, reads, ranges, writes (two bytes each) and
 # endorsements (one). Upgrades and amendments are longer.
 SHORTEST = 2 + 2 + 16 + 4 * 2 + 1
