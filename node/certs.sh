@@ -127,6 +127,8 @@ issuer=$1" || return 1
     test "$extensions" = "$EXTENSIONS" || return 1
     dates=$(openssl x509 -in "$work/authority" -noout -startdate -enddate 2> /dev/null)
     test "$(echo "$dates" | grep -c -E -x "not(Before|After)=$DATE")" = 2 || return 1
+    openssl asn1parse -in "$work/authority" > "$work/said" 2> /dev/null || return 1
+    test "$(grep -c -E ': (UTCTIME +:[0-9]{12}|GENERALIZEDTIME +:[0-9]{14})Z$' "$work/said")" = 2 || return 1
     openssl x509 -in "$work/authority" -noout -pubkey > "$work/public" 2> /dev/null || return 1
     openssl pkey -pubin -in "$work/public" -pubcheck -noout -text 2> /dev/null | grep -q -x 'ASN1 OID: prime256v1' || return 1
     openssl pkey -pubin -in "$work/public" -pubcheck -noout > "$work/said" 2>&1 || return 1

@@ -189,7 +189,7 @@ class Chain:
             if line := made.get(place):
                 self.unread[line.decode().split(" ")[0]] = id
             else:
-                self.resolve(id, {"id": id, "why": NO_SHARE})
+                self.resolve(id, {"id": id, "pending": True, "why": NO_SHARE})
         return list(made.values())
 
     async def hear(self, words: list[str]) -> None:

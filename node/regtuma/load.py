@@ -17,7 +17,7 @@ BODIES, KEPT, FEW, OF_CALLER, OF_ORGANISATION = 16 << 20, 8 << 20, 1 << 20, 4, 1
 # have 32 answers of 1 MiB.
 CALLS_OF_CALLER, CALLS = 64 << 20, 256 << 20
 # Who reads the page on the loopback, without a certificate.
-NOBODY = "page"
+NOBODY = "/page"
 
 
 class Load:

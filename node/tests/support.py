@@ -3,7 +3,9 @@ import atexit
 import functools
 import json
 import logging
+import os
 import pathlib
+import re
 import shutil
 import subprocess
 import sys
@@ -118,6 +120,20 @@ class Folder:
 
     def close(self) -> None:
         self.room.cleanup()
+
+
+# Runs the rest of its words as a process that makes no memory to write and execute, where the kernel has that: PR_SET_MDWE.
+DENY = "import ctypes, os, sys; ctypes.CDLL(None).prctl(65, 1, 0, 0, 0); os.execvp(sys.argv[1], sys.argv[1:])"
+
+
+def as_unit(name: str) -> list[str]:
+    """Words before a command, which then has what its unit of systemd gives it: open files, memory, and no capabilities."""
+    text = (ROOT / f"node/systemd/{name}.service").read_text()
+    settings = dict(it.split("=", 1) for it in text.splitlines() if re.match(r"[A-Za-z]+=", it))
+    files = settings["LimitNOFILE"]
+    alone = ["setpriv", "--bounding-set=-all", "--no-new-privs"] if os.geteuid() == 0 else []
+    denied = [sys.executable, "-ISc", DENY] if settings.get("MemoryDenyWriteExecute") == "yes" else []
+    return ["prlimit", f"--nofile={files}:{files}", *alone, *denied]
 
 
 def changed(count: int) -> tuple[int, dict]:

@@ -254,7 +254,7 @@ class Lines(Case):
         self.chain.lines.shares.paid[b"Maker"] = 3 * LAST_BLOCK * self.chain.lines.shares.block
         name, = self.chain.log.entries
         self.assertEqual(self.chain.counted(Entry(7, name.encode(), ENVELOPE.encode())), [])
-        self.assertEqual(await self.gateway.outcome("Maker/alice", waiter.result()), {"id": "ab", "why": chains.NO_SHARE})
+        self.assertEqual(await self.gateway.outcome("Maker/alice", waiter.result()), {"id": "ab", "pending": True, "why": chains.NO_SHARE})
         with self.assertRaises(Refused) as raised:
             self.gateway.check_open()
         self.assertEqual((raised.exception.status, raised.exception.said), (422, {"why": chains.NO_SHARE}))

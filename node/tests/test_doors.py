@@ -7,6 +7,7 @@ import base64
 import contextlib
 import functools
 import http.client
+import itertools
 import json
 import logging
 import os
@@ -86,6 +87,15 @@ def block(text: bytes) -> bytes:
     return len(text).to_bytes(2, "big") + text
 
 
+def hello(more: dict[int, bytes]) -> bytes:
+    """A ClientHello in records, with these extensions beside those that TLS 1.3 wants."""
+    parts = {43: b"\2\3\4", 13: block(b"\4\3\x08\4"), 10: block(b"\0\x1d"), **more}
+    extensions = b"".join(number.to_bytes(2, "big") + block(it) for number, it in parts.items())
+    said = b"\3\3" + bytes(33) + block(b"\x13\1") + b"\1\0" + block(extensions)
+    text = b"\1" + len(said).to_bytes(3, "big") + said
+    return b"".join(b"\x16\3\1" + block(text[it:it + 16_384]) for it in range(0, len(text), 16_384))
+
+
 def free_ports():
     with contextlib.ExitStack() as opened:
         found = [opened.enter_context(socket.create_server(("127.0.0.1", 0))) for _ in range(2)]
@@ -129,7 +139,7 @@ class Doors(unittest.TestCase):
     @classmethod
     def begin_proxy(cls, settings: pathlib.Path, port: int, page: int) -> subprocess.Popen:
         places = {"LISTEN": f"127.0.0.1:{port}", "PAGE": f"127.0.0.1:{page}", "SETTINGS": str(cls.room), "SOCKETS": str(cls.room)}
-        return cls.begin(["/usr/sbin/haproxy", "-db", "-f", settings], {**places, "LD_PRELOAD": str(support.preload())})
+        return cls.begin([*support.as_unit("regtuma-proxy"), "/usr/sbin/haproxy", "-db", "-f", settings], {**places, "LD_PRELOAD": str(support.preload())})
 
     @classmethod
     def begin(cls, command: list, env: dict[str, str] | None = None) -> subprocess.Popen:
@@ -303,20 +313,19 @@ class Doors(unittest.TestCase):
         self.assertLess(float(said.split()[-1]), 0.3, said)
 
     def test_a_stranger_begins_no_long_handshake(self):
-        """OpenSSL compares each share of a key with each group that is named, 100 million times in 64 KB, and keeps each name."""
-        begin, before, groups = b"\3\3" + bytes(33), self.processor(), b"\0\x1d" + b"\xfe\0" * 16_200 + b"\x12\x34"
-        parts = {43: b"\2\3\4", 13: block(b"\4\3\x08\4"), 10: block(b"\0\x1d"), 51: block(b"\0\x1d" + block(os.urandom(32)))}
-        many = {"nothing": {}, "groups": {10: block(groups), 51: block(b"\x12\x34\0\1\1" * 6_400)}, "authorities": {47: block(block(b"0\0") * 16_000)},
+        """OpenSSL compares each share of a key with each group that is named, 100 million times in 64 KB, and keeps each name. It asks who
+        sends no share of a key for a second ClientHello."""
+        groups, share, before = b"\0\x1d" + b"\xfe\0" * 16_200 + b"\x12\x34", block(b"\0\x1d" + block(os.urandom(32))), self.processor()
+        long = {"nothing": {}, "groups": {10: block(groups), 51: block(b"\x12\x34\0\1\1" * 6_400)}, "authorities": {47: block(block(b"0\0") * 16_000)},
                 "signatures": {13: block(b"\4\3" * 16_000)}, "protocols": {16: block(b"\2h2" * 16_000)}}
-        for what, more in many.items():
-            extensions = b"".join(number.to_bytes(2, "big") + block(it) for number, it in {**parts, **more}.items())
-            said = begin + block(b"\x13\1") + b"\1\0" + block(extensions)
-            hello = b"\1" + len(said).to_bytes(3, "big") + said
-            for _ in range(5):
-                with self.subTest(what=what), self.connect(port=self.port) as at:
-                    at.sendall(b"".join(b"\x16\3\1" + block(hello[it:it + 16_384]) for it in range(0, len(hello), 16_384)))
-                    self.assertEqual(at.recv(100) == ILLEGAL, bool(more))
-        self.assertLess(self.processor() - before, 0.4)
+        for what, is_second in itertools.product(long, (False, True)):
+            with self.subTest(what=what, is_second=is_second), self.connect(port=self.port) as at:
+                if is_second:
+                    at.sendall(hello({51: block(b"")}))
+                    self.assertEqual(at.recv(4096)[:1], b"\x16")
+                at.sendall(hello({51: share, **long[what]}))
+                self.assertEqual(at.recv(4096) == ILLEGAL, what != "nothing")
+        self.assertLess(self.processor() - before, 0.3)
 
     def test_no_session_is_taken_up_again(self):
         at = self.connect("alice")
