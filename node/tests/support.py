@@ -6,6 +6,7 @@ import logging
 import os
 import pathlib
 import re
+import resource
 import shutil
 import subprocess
 import sys
@@ -130,7 +131,7 @@ def as_unit(name: str) -> list[str]:
     """Words before a command, which then has what its unit of systemd gives it: open files, memory, and no capabilities."""
     text = (ROOT / f"node/systemd/{name}.service").read_text()
     settings = dict(it.split("=", 1) for it in text.splitlines() if re.match(r"[A-Za-z]+=", it))
-    files = settings["LimitNOFILE"]
+    files = min(int(settings["LimitNOFILE"]), resource.getrlimit(resource.RLIMIT_NOFILE)[1])
     alone = ["setpriv", "--bounding-set=-all", "--no-new-privs"] if os.geteuid() == 0 else []
     denied = [sys.executable, "-ISc", DENY] if settings.get("MemoryDenyWriteExecute") == "yes" else []
     return ["prlimit", f"--nofile={files}:{files}", *alone, *denied]
