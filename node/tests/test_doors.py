@@ -317,7 +317,8 @@ class Doors(unittest.TestCase):
         sends no share of a key for a second ClientHello."""
         groups, share, before = b"\0\x1d" + b"\xfe\0" * 16_200 + b"\x12\x34", block(b"\0\x1d" + block(os.urandom(32))), self.processor()
         long = {"nothing": {}, "groups": {10: block(groups), 51: block(b"\x12\x34\0\1\1" * 6_400)}, "authorities": {47: block(block(b"0\0") * 16_000)},
-                "signatures": {13: block(b"\4\3" * 16_000)}, "protocols": {16: block(b"\2h2" * 16_000)}}
+                "signatures": {13: block(b"\4\3" * 16_000)}, "protocols": {16: block(b"\2h2" * 16_000)},
+                "responders": {5: b"\1" + block(b"\0\4\xa1\2\x30\0" * 10_000) + block(b"")}}
         for what, is_second in itertools.product(long, (False, True)):
             with self.subTest(what=what, is_second=is_second), self.connect(port=self.port) as at:
                 if is_second:
