@@ -93,6 +93,8 @@ class Api:
         chain, awaited, now, wrong = self.chain, self.chain.awaited, time.monotonic(), []
         if chain.forked:
             wrong.append(f"forked: {chain.forked}. Compare the hash of that block with each organisation, not through the log")
+        if chain.shortness:
+            wrong.append(chain.shortness)
         if awaited.since and now - awaited.since > STUCK + chain.wait and not chain.is_full:
             wrong.append("envelopes wait, and no tick comes: the log may take none")
         if (unled := now - chain.led) > UNLED:

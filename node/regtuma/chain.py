@@ -31,6 +31,8 @@ FULL, NO_MARK = 422, 300
 PROBE, SHORT_PATIENCE = 3.0, 3.0
 # The JSON of so many blocks is kept for those who watch.
 NEWEST = 16
+# For how long a log that gives fewer blocks than the store has may be one that is still read, in seconds.
+SHORT = 15.0
 # So many calls that came to no block are remembered with the reason.
 REMEMBERED = 1000
 # So many blocks may be of lines that the log has told other nodes and not yet this one.
@@ -76,6 +78,8 @@ class Chain:
         self.ticks = config.ticks
         # Where the log is, and how many entries it has; how many of its lines the peer was given, and how many it has read.
         self.revision = self.entries = self.given = self.read = 0
+        # When the peer read the last one, by a clock that never goes back.
+        self.read_at = time.monotonic()
         # How often entries are put, and how many bytes of all callers and of each: a file bears any number.
         self.pace, self.space = (Pace(0.0), Pace(0.0)) if config.is_local else (Pace(EACH), pace_of_bytes())
         self.apart = apart(0.0 if config.is_local else ENTRIES_APART)
@@ -125,6 +129,15 @@ class Chain:
     def is_full(self) -> bool:
         """Whether the last block was cut, so that what is put now is in none."""
         return self.ticks.is_full(max(self.awaited.number, self.height + 1))
+
+    @property
+    def shortness(self) -> str:
+        """What is wrong where the log has given fewer blocks than the store has, and goes on no more: another log makes other blocks."""
+        number = self.awaited.number - 1
+        if number >= self.height or self.read < self.given or time.monotonic() - self.read_at < SHORT:
+            return ""
+        return (f"the store has {self.height:,} blocks, and the log gives {number:,}. It may be another log: compare the stores, and renew the log"
+                " behind the longest one")
 
     @property
     def share(self) -> int:
@@ -207,7 +220,7 @@ class Chain:
             case ["read", index, waiting]:
                 is_own = waiting != "0" and self.part in self.lines.behind
                 self.awaited = Awaited(self.awaited.number, int(waiting), self.awaited.since or time.monotonic() if is_own else None)
-                self.read += 1
+                self.read, self.read_at = self.read + 1, time.monotonic()
                 self.unread.pop(index, None)
             case ["skipped", index, number]:
                 # What nodes tell each other is no mark, and is skipped so by all.

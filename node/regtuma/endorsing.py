@@ -195,8 +195,8 @@ class Endorsing:
 
     def denial(self, proposal: Object) -> str | None:
         """Why a proposal is not even simulated, if so."""
-        if self.chain.forked:
-            return self.chain.forked
+        if why := self.chain.forked or self.chain.shortness:
+            return why
         if "chaincode" not in proposal and not self.agreed.holds(id := id_of(proposal)):
             return f"its operator has not agreed to {id}"
         return None

@@ -126,8 +126,8 @@ class Gateway:
             raise Refused(422, numbers.in_words(f"refused {FULL}"))
         if not self.chain.share:
             raise Refused(422, {"why": NO_SHARE})
-        if self.chain.forked:
-            raise Refused(503, {"why": self.chain.forked})
+        if why := self.chain.forked or self.chain.shortness:
+            raise Refused(503, {"why": why})
 
     def check_space(self, caller: str) -> None:
         """Whether the log has room for a call of a caller."""

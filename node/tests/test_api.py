@@ -302,6 +302,7 @@ class Health(Case):
         for told, changes in [("forked: Shop says", {"forked": "Shop says that it has another block 4"}),
                               ("envelopes wait, and no tick comes", {"awaited": Awaited(5, 1, -1e6)}),
                               ("the log could take no entry for", {"led": -1e6}), ("20000 lines of the log are unread", {"given": 20000}),
+                              ("the store has 4 blocks, and the log gives 1", {"awaited": Awaited(2), "read_at": -1e6}),
                               ("the chain is full", {"awaited": Awaited(LAST_BLOCK + 1)})]:
             with self.subTest(told=told), contextlib.ExitStack() as changed:
                 for name, value in changes.items():

@@ -267,6 +267,20 @@ class Lines(Case):
         self.assertEqual((raised.exception.status, raised.exception.said["why"]), (503, self.chain.forked))
         self.assertEqual(await self.endorsed(), [{"denied": self.chain.forked, "height": 0}])
 
+    async def test_a_log_that_gives_fewer_blocks_than_the_store_has_takes_no_call(self):
+        """Its next block is another one. While it is read nothing is told."""
+        self.chain.height, self.chain.awaited = 8, Awaited(6)
+        self.gateway.check_open()
+        self.chain.read_at -= chains.SHORT
+        with self.assertRaises(Refused) as raised:
+            self.gateway.check_open()
+        self.assertEqual(raised.exception.status, 503)
+        self.assertRegex(raised.exception.said["why"], "^the store has 8 blocks, and the log gives 5. It may be another log")
+        self.assertEqual(await self.endorsed(), [{"denied": self.chain.shortness, "height": 8}])
+        for awaited, given in ((9, 0), (6, 1)):
+            self.chain.awaited, self.chain.given = Awaited(awaited), given
+            self.assertEqual(self.chain.shortness, "")
+
     async def test_who_waits_for_a_block_ends_in_the_very_moment_in_which_it_comes(self):
         async def follow() -> None:
             await self.chain.at_least(1, 60.0)
