@@ -98,9 +98,9 @@ def as_it_was(files: list[pathlib.Path]) -> Iterator[dict[pathlib.Path, bytes | 
 
 
 def did(case: Case, program: pathlib.Path, data: pathlib.Path) -> Ran:
-    """Types a case. What `peer` writes is forgotten."""
+    """Types a case. What `peer` and `checkpoint` write is forgotten."""
     words, given = made(case, data)
-    with as_it_was([data / it for it in words] if words[0] == "peer" else []):
+    with as_it_was([data / it for it in words] if words[0] in ("peer", "checkpoint") else []):
         return ran(program, words, data, given)
 
 
@@ -131,6 +131,21 @@ def try_shown(report: Report, case: Case, now: Ran, data: pathlib.Path) -> None:
     if shown.is_shown(case.line, lines, now.status, data):
         wanted = shown.stated(case.line, data)
         report.case(f"{case.line}: what the store's bytes say", (lines, now.status) == wanted, f"{lines}\nwanted {wanted}"[:4000])
+
+
+def try_checkpoint(report: Report, program: pathlib.Path, case: Case, now: Ran, data: pathlib.Path) -> None:
+    """A checkpoint is the one that is worked out here of the store's bytes, in a new file and in the place of another checkpoint."""
+    if case.words()[0] != "checkpoint" or now.status:
+        return
+    words = made(case, data)[0]
+    words[3], wanted = "made.checkpoint", shown.checkpoint(words, data)
+    with as_it_was([data / words[3]]):
+        for held in (None, b"", wanted[:8]):
+            if held is not None:
+                (data / words[3]).write_bytes(held)
+            again = ran(program, words, data)
+            is_so = again == now and (data / words[3]).read_bytes() == wanted and not (data / f"{words[3]}.part").exists()
+            report.case(f"{case.line}: its bytes, over {held!r}", is_so, str(again))
 
 
 def try_pipe(report: Report, program: pathlib.Path, data: pathlib.Path) -> None:
@@ -168,5 +183,6 @@ def try_lines(report: Report, tree: pathlib.Path, room: pathlib.Path, program: p
             if built == program:
                 try_sentences(report, case, now)
                 try_shown(report, case, now, data)
+                try_checkpoint(report, built, case, now, data)
         try_pipe(report, built, data)
         try_threads(report, built, data)

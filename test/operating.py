@@ -159,6 +159,7 @@ class Operating:
         self.well()
         self.maker.type(self.report, *calls)
         self.maker.type(self.report, *self.block("regtuma health"))
+        self.everywhere("ledger checkpoint")
         see_page(self.report, f"http://{self.maker.net}.1:8080/", lambda asset: self.maker.run("regtuma", "submit", "assets", "create", asset, "x"))
 
     def lose_member(self) -> None:

@@ -1,5 +1,5 @@
-"""What `show`, `state`, `marks` and a peer that is asked questions print of the stores of test/cases, worked out from their bytes by
-docs/OUTPUT.md."""
+"""What `show`, `state`, `marks`, `checkpoint` and a peer that is asked questions print of the stores of test/cases, worked out from
+their bytes by docs/OUTPUT.md."""
 import hashlib
 import hmac
 import json
@@ -9,6 +9,7 @@ import sys
 from collections.abc import Callable, Iterator
 from typing import Any, TypeVar
 
+from checkpoints import checkpoint_of
 from tree import ROOT
 
 sys.path.insert(0, str(ROOT / "python"))
@@ -429,8 +430,8 @@ def shown(words: list[str], folder: pathlib.Path, asked: list[bytes]) -> tuple[l
         return [f"refused 711 block {found['audit'].split()[-1]}"], 1
     # No module is needed for a state.
     audit = "agrees" if found["audit"].startswith("refused 406") else found["audit"]
-    # A peer cuts off a part of a record, and says which block does not fit.
-    if command == "peer":
+    # A peer cuts off a part of a record, and a checkpoint leaves it out. Both say which block does not fit.
+    if command in ("peer", "checkpoint"):
         audit += f" block {len(blocks) + 1}" if audit.startswith("refused") else ""
         found["end"] = "clean" if found["end"] == "refused 701" else found["end"]
     for refusal in audit, found["end"]:
@@ -440,12 +441,25 @@ def shown(words: list[str], folder: pathlib.Path, asked: list[bytes]) -> tuple[l
         whole = sum(len(it) + AROUND for it in records(store)[0])
         opened = [*([f"cut {len(store) - whole}"] if whole < len(store) else []), f"height {len(blocks)}"]
         return [*opened, *answers(asked, genesis, blocks, at_hand)], 0
+    if command == "checkpoint":
+        return [f"checkpoint {len(blocks)} {checkpointed(genesis, store, blocks)[-32:].hex()}"], 0
     if command == "marks":
         return [mark for record in records(store)[0] for mark in marks_of(record)], 0
     blocks = [it for it in blocks if it["block"] <= int(options.get("--at", LAST_BLOCK))]
     if "--key" in options:
         return [it for it in placed_writes(blocks) if it["key"] == options["--key"]], 0
     return [standing_of(genesis, blocks)] if "--members" in options else entries_of(blocks), 0
+
+
+def checkpointed(genesis: dict, store: bytes, blocks: list[dict]) -> bytes:
+    """The checkpoint of the chain of a store, all of whose whole records fit."""
+    return checkpoint_of(genesis["digest"], blocks, entries_of(blocks), [len(it) + AROUND for it in records(store)[0]])
+
+
+def checkpoint(words: list[str], folder: pathlib.Path) -> bytes:
+    """What the file has that `checkpoint` is to write."""
+    genesis, store = read_genesis((folder / words[1]).read_bytes()), (folder / words[2]).read_bytes()
+    return checkpointed(genesis, store, chain_of(store, words[1], words[2], genesis, set())[0])
 
 
 def stated(line: str, folder: pathlib.Path) -> tuple[list[str], int]:
@@ -465,7 +479,7 @@ def is_shown(line: str, lines: list[str], status: int | None, folder: pathlib.Pa
     questions alone."""
     given, _, name = line.partition(" < ")
     words = given.split()
-    if words[0] not in ("show", "state", "marks", "peer") or status is None or status > 1 or not (folder / words[2]).exists():
+    if words[0] not in ("show", "state", "marks", "checkpoint", "peer") or status is None or status > 1 or not (folder / words[2]).exists():
         return False
     if words[0] == "peer" and ("--org" in words or not all(it.startswith(b"ask ") for it in asked_in(name, folder))):
         return False

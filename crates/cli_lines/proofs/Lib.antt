@@ -7,3 +7,4 @@ pub mod Printing
 pub mod RefusedTexts
 pub mod SharedBlocks
 pub mod Silence
+pub mod WholeFiles

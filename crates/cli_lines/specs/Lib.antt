@@ -6,3 +6,4 @@ pub mod Sealing
 pub mod Opening
 pub mod Places
 pub mod Memory
+pub mod Whole

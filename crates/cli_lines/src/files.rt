@@ -184,7 +184,7 @@ impl From<AllocError> for FileFault {
 }
 
 /// The first bytes of a file, `most` at most, and all where it has no more.
-pub(crate) fn read_at_most<F: Files>(
+pub fn read_at_most<F: Files>(
     alloc: Global,
     files: &mut F,
     name: &str,

@@ -5,6 +5,7 @@
 //! [`genesis_in`] reads what a system begins with, [`modules_in`] the modules at hand beside its own,
 //! and [`signers_in`] the seeds at hand.
 //! What [`explain`] and its like say on the standard error stands beside a line that refuses.
+//! [`write_whole`] writes a file that is the new one to its end, or stays as it was.
 //! [`Printer`] is where lines are printed: contracts see of it how many texts were printed, whether
 //! one could not be, and what its writer holds, where that is known. [`Failure`] says why a command
 //! was not done.
@@ -23,6 +24,7 @@ mod missing;
 mod opening;
 mod printer;
 mod verdict;
+mod whole;
 
 pub use committed::CommittedText;
 pub use explaining::{
@@ -30,7 +32,7 @@ pub use explaining::{
     explain_numbered, explain_read, explain_trouble, read_all_explained, read_explained,
 };
 pub use failure::Failure;
-pub use files::{Access, FileFault, Files, Target, read_all};
+pub use files::{Access, FileFault, Files, Target, read_all, read_at_most};
 pub use keys::{keys_in, need_seeds, signers_in};
 pub use lines::{hex_of, id_of, print_committed, print_line, print_payload, version_of};
 pub use meanings::{TAKE_AGAIN, block_words, flags_words, number_words, simulation_words};
@@ -40,3 +42,4 @@ pub use missing::{block_needs_module, explain_missing, explain_missing_in, first
 pub use opening::{genesis_holding, genesis_in, modules_in};
 pub use printer::Printer;
 pub use verdict::{print_audit, print_missing};
+pub use whole::{Content, explain_target, part_of, write_whole};

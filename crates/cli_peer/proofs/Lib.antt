@@ -11,3 +11,4 @@ pub mod OneLine
 pub mod AtHand
 pub mod Rounds
 pub mod Sharing
+pub mod Checkpoints

@@ -10,3 +10,5 @@ pub mod Keeping
 pub mod Alike
 pub mod Setting
 pub mod Rounds
+pub mod Checkpoints
+pub mod Stored

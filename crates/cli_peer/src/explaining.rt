@@ -104,6 +104,22 @@ pub(crate) fn explain_cut<F: Files>(
     }
 }
 
+/// Says that a part of a record stands behind the last whole block of a store, which ends at a byte.
+pub(crate) fn explain_torn<F: Files>(
+    alloc: Global,
+    files: &mut F,
+    name: &str,
+    height: u32,
+    end: u64,
+)
+    ensures kept { F.bytes files.new ≡ F.bytes files.old }
+{
+    let words = format!(in alloc;
+        "a part of a record is behind byte {end}, where {height} whole blocks end; it is left out"
+    );
+    explain(alloc, files, &Location::file(name), words);
+}
+
 /// Why a block is refused of which the store has another one.
 fn forked_words(alloc: Global, block: u32) -> Result<String, AllocError> {
     format!(in alloc; "block {block} {FORKED} (602)")

@@ -1,30 +1,9 @@
 -- The store stays as it was where a run is refused.
-use Rattle.std.proofs.Common.{◌≡◌, ◌≢◌, ◌++◌, ℕ, Bool, true, List, [], ◌∷◌, Option, Some, None, IfSome, Result, Ok, Err, OnErr, codes, length, length-append, ap, arith, subst, sym, ◌∙◌}
+use Rattle.std.proofs.Common.{◌≡◌, ℕ, Bool, true, List, Option, Some, None, IfSome, ap, subst, sym, ◌∙◌}
 use Rattle.std.specs.Borrow.{Bor}
-use Rattle.cli_lines.specs.Places.{ChangesOnly, FilesHeld, IsFileOf, IsFree}
+use Rattle.cli_lines.specs.Places.{FilesHeld, IsFileOf, IsFree}
 use Rattle.cli_lines.specs.declared.files.Target.{Target}
-use Rattle.cli_session.specs.Stored.{Stays, StaysPlaced}
-
--- the name of the file beside a store is another one
-pub apart_from_part : (name part : List ℕ) → part ≡ name ++ codes ".part" → name ≢ part
-apart_from_part name part is = λ same.
-    let longer : length part ≡ length name = ap length (sym same) in
-    let parts = ap length is ∙ length-append name (codes ".part") in
-    absurd (omega (arith, longer, parts))
-
--- what was refused changed the file beside the store alone
-pub part_changed : {A E : Type 0} (r : Result A E) (known : Bool) (name part : List ℕ) (a b : FilesHeld) (P : Type 0) → name ≢ part →
-    ChangesOnly known (part ∷ []) a b → OnErr r (P → Stays known name a b)
-part_changed (Ok x) known name part a b P apart change = tt
-part_changed (Err e) known name part a b P apart change = λ free writes. change writes name (apart, tt)
-
--- the same and behind that what leaves the store
-pub part_changed_then : {A E : Type 0} (r : Result A E) (known : Bool) (name part : List ℕ) (a b c : FilesHeld) (P Q : Type 0) → name ≢ part →
-    ChangesOnly known (part ∷ []) a b → (P → known ≡ true → b name ≡ a name → Q) → OnErr r (Q → Stays known name b c) → OnErr r (P → Stays known name a c)
-part_changed_then (Ok x) known name part a b c P Q apart change step stays = tt
-part_changed_then (Err e) known name part a b c P Q apart change step stays = λ free writes.
-    let same = change writes name (apart, tt) in
-    stays (step free writes same) writes ∙ same
+use Rattle.cli_lines.specs.Whole.{Stays, StaysPlaced}
 
 -- ---- of the place of a store
 

@@ -1,5 +1,5 @@
 -- The store that a run writes.
-use Rattle.std.specs.Prelude.{◌≡◌, ◌≢◌, ◌<◌, ◌++◌, ◌⊎◌, ℕ, Bool, true, List, [], ◌∷◌, Option, Some, IfSome, Result, Ok, Err, codes, length, string_bytes}
+use Rattle.std.specs.Prelude.{◌≡◌, ◌≢◌, ◌<◌, ◌⊎◌, ℕ, Bool, true, List, [], Option, Some, IfSome, Result, Ok, Err, length, string_bytes}
 use Rattle.std.specs.List.{flat_map}
 use Rattle.fab_types.specs.Committed.{Committed}
 use Rattle.block_store.specs.Record.{record_bytes}
@@ -8,7 +8,7 @@ use Rattle.block_store.specs.Loading.{StoreGives}
 use Rattle.block_store.specs.declared.end.End.{End}
 use Rattle.block_store.specs.declared.end.End.TheVariants.{Clean, Torn, Damaged, DeviceFailed}
 use Rattle.ledger_model.specs.Chain.{Chain}
-use Rattle.cli_lines.specs.Places.{ChangesOnly, FilesHeld, IsFileOf, IsFree}
+use Rattle.cli_lines.specs.Places.{FilesHeld, IsFileOf}
 use Rattle.cli_lines.specs.Told.{IsBrokenOff}
 use Rattle.cli_lines.specs.declared.failure.Failure.{Failure}
 use Rattle.cli_lines.specs.declared.failure.Failure.TheVariants as failure
@@ -31,22 +31,6 @@ HoldsAsked known bytes asked chain = IfSome asked (λ name. IfSome chain (Holds 
 abbrev pub HoldsPlaced : (known : Bool) → (bytes : FilesHeld) → (place : Option Target) → Option Chain → Type 0
 HoldsPlaced known bytes place chain =
     IfSome place (λ target. IfSome chain (λ c. (name : List ℕ) → IsFileOf name target → Holds known bytes name c))
-
--- the file of this name holds what it held, where it is known what is written
-abbrev pub Stays : (known : Bool) → (name : List ℕ) → (before after : FilesHeld) → Type 0
-Stays known name before after = known ≡ true → after name ≡ before name
-
--- so it is of the place of a store, by each name that leads there, if no file was where a new one is to be
-abbrev pub StaysPlaced : (known : Bool) → (place : Target) → (before after : FilesHeld) → Type 0
-StaysPlaced known place before after = (name : List ℕ) → IsFileOf name place → IsFree before place → Stays known name before after
-
--- the names of a store's files: its own, and the one with `.part` behind it, by which it is written until it is whole
-abbrev pub store_names : List ℕ → List (List ℕ)
-store_names name = name ∷ (name ++ codes ".part") ∷ []
-
--- of the place of a store: by each name that leads there, no other files are changed
-abbrev pub ChangesPlaced : (known : Bool) → (place : Target) → (before after : FilesHeld) → Type 0
-ChangesPlaced known place before after = (name : List ℕ) → IsFileOf name place → ChangesOnly known (store_names name) before after
 
 -- ---- what stands where a store is to be written
 

@@ -1,15 +1,13 @@
 //! The place of the store that a run writes.
 
-ghost use Rattle.std.specs.Prelude.{◌≡◌, ◌++◌, true, IfErr, IfOk, IfSome, OnOk, codes, string_bytes};
+ghost use Rattle.std.specs.Prelude.{◌≡◌, true, IfErr, IfOk, IfSome, OnOk};
 ghost use Rattle.cli_lines.specs.Places.{IsFileOf, IsFree};
 ghost use Rattle.cli_lines.specs.Told.{IsBrokenOff, IsSilent};
 ghost use Rattle.cli_session.specs.Stored.{BeginsNoStore, HasStore};
 
 use crate::replacing::{Replaced, take_file};
 use crate::session::RunFiles;
-use cli_lines::{
-    Access, Failure, FileFault, Files, Location, Target, explain_numbered, explain_trouble,
-};
+use cli_lines::{Failure, Files, Location, Target, explain_numbered, explain_target, part_of};
 use std::alloc::{AllocError, Global};
 
 /// Where a run writes its store.
@@ -70,20 +68,6 @@ pub(crate) fn place_of<F: Files>(
 /// What is wrong with a name of a store whose file the run reads.
 const IS_READ: &str = "it is a file that the run reads, or stands where one would be written";
 
-/// Says why no store can be written under a name, if that is so.
-fn explain_target<F: Files>(
-    alloc: Global,
-    files: &mut F,
-    name: &str,
-    found: &Result<Target, FileFault>,
-)
-    ensures kept { F.bytes files.new ≡ F.bytes files.old }
-{
-    if matches!(found, Err(FileFault::Device)) {
-        explain_trouble(alloc, files, name, Access::Write);
-    }
-}
-
 /// The file in whose place a store comes, if there is one, taken for the program alone. Sentences
 /// call it by the name that is shown.
 fn replaced_at<F: Files>(
@@ -101,13 +85,6 @@ fn replaced_at<F: Files>(
         Target::File(name) => Ok(Some(take_file(alloc, files, name, shown)?)),
         Target::NewFile(_) | Target::Device(_) => Ok(None),
     }
-}
-
-/// The name under which a store is written before it takes the place of the file of a name.
-pub(crate) fn part_of(alloc: Global, name: &str) -> Result<String, AllocError>
-    ensures { IfOk result (λ part. string_bytes part ≡ name.now ++ codes ".part") }
-{
-    format!(in alloc; "{name}.part")
 }
 
 /// Whether writing to a place would take away a file that the run reads. A device stays what it is.

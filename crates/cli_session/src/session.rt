@@ -12,7 +12,8 @@ ghost use Rattle.cli_lines.specs.Told.{Answers, Begins, IsBrokenOff, Prints, Pri
 ghost use Rattle.cli_session.specs.Replies.{begin_text, endorsed_text, finish_text, reply_text};
 ghost use Rattle.cli_session.specs.Running.{Does, DoesAll, DoesFirst, IsBadLine, IsBytes, IsLine, IsNamed, IsUnbound, MeetsBadLine, StopsAt};
 ghost use Rattle.cli_session.specs.Stages.{DoesPrint, Gets, IsStepOf, Stay, StepsTo, first_chain, stage_at};
-ghost use Rattle.cli_session.specs.Stored.{ChangesPlaced, HoldsAsked, HoldsPlaced, IsNotRun, Stays, StaysPlaced, WhereNoStore, store_names};
+ghost use Rattle.cli_lines.specs.Whole.{ChangesPlaced, Stays, StaysPlaced, whole_names};
+ghost use Rattle.cli_session.specs.Stored.{HoldsAsked, HoldsPlaced, IsNotRun, WhereNoStore};
 ghost use Rattle.cli_session.specs.Whole.{BeginsFrom, ComesTo, EndsPrinted, IsEnd, LinesBegin, LinesComeTo, RunBegins};
 
 use crate::explaining::{Refused, explain_line, next_explained, refused_by};
@@ -97,7 +98,7 @@ pub fn run<T: Threads + Sync, F: Files, W: Write>(
     // Where no store is asked for, no file is written, and else none but the store's.
     ensures kept { names.now.store ≡ None → F.bytes files.new ≡ F.bytes files.old }
     ensures others { IfSome names.now.store
-        (λ s. ChangesOnly F.is_known (store_names s.now) (F.bytes files.old) (F.bytes files.new)) }
+        (λ s. ChangesOnly F.is_known (whole_names s.now) (F.bytes files.old) (F.bytes files.new)) }
     // A run that is refused or broken off leaves the store as it was.
     ensures stays { OnErr result
         (IfSome names.now.store
@@ -136,7 +137,7 @@ fn run_read<T: Threads + Sync, F: Files, B: BufRead, W: Write>(
     ensures begins { Begins (LinesBegin genesis.now (B.remaining lines.old)) out.old out.new result }
     ensures kept { names.now.store ≡ None → F.bytes files.new ≡ F.bytes files.old }
     ensures others { IfSome names.now.store
-        (λ s. ChangesOnly F.is_known (store_names s.now) (F.bytes files.old) (F.bytes files.new)) }
+        (λ s. ChangesOnly F.is_known (whole_names s.now) (F.bytes files.old) (F.bytes files.new)) }
     ensures stays { OnErr result
         (IfSome names.now.store
         (λ s. Stays F.is_known s.now (F.bytes files.old) (F.bytes files.new))) }

@@ -29,7 +29,7 @@ abbrev is_work_name : Text → Bool
 is_work_name name =
     list_any (bytes_eq name)
     (codes "sim" ∷ codes "run" ∷ codes "threads" ∷ codes "audit" ∷ codes "show" ∷ codes "state" ∷ codes "trace" ∷ codes "peer" ∷ codes "marks"
-    ∷ [])
+    ∷ codes "checkpoint" ∷ [])
 
 named : (w : Work) → true ≡ is_work_name (work_name w)
 named (work.Simulate p store) = refl
@@ -41,6 +41,7 @@ named (work.State store at part) = refl
 named (work.Trace call most) = refl
 named (work.Peer org store) = refl
 named (work.Marks store) = refl
+named (work.Checkpoint store file) = refl
 
 no_work : (w : Work) (name : Text) → is_work_name name ≡ false → work_name w ≡ name → ⊥
 no_work w name apart is = true≢false (named w ∙ ap is_work_name is ∙ apart)
@@ -133,16 +134,22 @@ pub marks_parts : (rows : List Row) (w : Work) → IsWorkAs (codes "marks") rows
 marks_parts rows (work.Marks store) h = (store, h.1)
 marks_parts rows w h = absurd (differ (work_name w) (codes "marks") refl h.0)
 
+pub checkpoint_parts : (rows : List Row) (w : Work) → IsWorkAs (codes "checkpoint") rows w →
+    HasWord rows (codes "STORE") × HasWord rows (codes "FILE")
+checkpoint_parts rows (work.Checkpoint store file) h = ((store, h.1.0), (file, h.1.1))
+checkpoint_parts rows w h = absurd (differ (work_name w) (codes "checkpoint") refl h.0)
+
 -- no work has any other name
 pub other_work : (rows : List Row) (name : Text) → name ≢ codes "sim" → name ≢ codes "run" → name ≢ codes "threads" → name ≢ codes "audit" →
-    name ≢ codes "show" → name ≢ codes "state" → name ≢ codes "trace" → name ≢ codes "peer" → name ≢ codes "marks" → (w : Work) →
-    IsWorkAs name rows w → ⊥
-other_work rows name sim run threads audit show state trace peer marks (work.Simulate p store) h = sim (sym h.0)
-other_work rows name sim run threads audit show state trace peer marks (work.Run events store) h = run (sym h.0)
-other_work rows name sim run threads audit show state trace peer marks (work.Threads chaincode rounds) h = threads (sym h.0)
-other_work rows name sim run threads audit show state trace peer marks (work.Audit store) h = audit (sym h.0)
-other_work rows name sim run threads audit show state trace peer marks (work.Show store from to) h = show (sym h.0)
-other_work rows name sim run threads audit show state trace peer marks (work.State store at part) h = state (sym h.0)
-other_work rows name sim run threads audit show state trace peer marks (work.Trace call most) h = trace (sym h.0)
-other_work rows name sim run threads audit show state trace peer marks (work.Peer org store) h = peer (sym h.0)
-other_work rows name sim run threads audit show state trace peer marks (work.Marks store) h = marks (sym h.0)
+    name ≢ codes "show" → name ≢ codes "state" → name ≢ codes "trace" → name ≢ codes "peer" → name ≢ codes "marks" →
+    name ≢ codes "checkpoint" → (w : Work) → IsWorkAs name rows w → ⊥
+other_work rows name sim run threads audit show state trace peer marks checkpoint (work.Simulate p store) h = sim (sym h.0)
+other_work rows name sim run threads audit show state trace peer marks checkpoint (work.Run events store) h = run (sym h.0)
+other_work rows name sim run threads audit show state trace peer marks checkpoint (work.Threads chaincode rounds) h = threads (sym h.0)
+other_work rows name sim run threads audit show state trace peer marks checkpoint (work.Audit store) h = audit (sym h.0)
+other_work rows name sim run threads audit show state trace peer marks checkpoint (work.Show store from to) h = show (sym h.0)
+other_work rows name sim run threads audit show state trace peer marks checkpoint (work.State store at part) h = state (sym h.0)
+other_work rows name sim run threads audit show state trace peer marks checkpoint (work.Trace call most) h = trace (sym h.0)
+other_work rows name sim run threads audit show state trace peer marks checkpoint (work.Peer org store) h = peer (sym h.0)
+other_work rows name sim run threads audit show state trace peer marks checkpoint (work.Marks store) h = marks (sym h.0)
+other_work rows name sim run threads audit show state trace peer marks checkpoint (work.Checkpoint store file) h = checkpoint (sym h.0)

@@ -15,6 +15,7 @@ work_name (work.State store at part) = codes "state"
 work_name (work.Trace call most) = codes "trace"
 work_name (work.Peer org store) = codes "peer"
 work_name (work.Marks store) = codes "marks"
+work_name (work.Checkpoint store file) = codes "checkpoint"
 
 abbrev pub command_name : Task → List ℕ
 command_name (task.Check m profile) = codes "check"

@@ -174,6 +174,7 @@ IsWorkBy rows (work.State store at part) =
 IsWorkBy rows (work.Trace call most) = OrElse SpellsCount 1000 (first_of (codes "steps") rows) most × IsCallBy rows None call
 IsWorkBy rows (work.Peer org store) = OrElse SpellsOrg None (first_of (codes "org") rows) org × Has rows (codes "STORE") store.now
 IsWorkBy rows (work.Marks store) = Has rows (codes "STORE") store.now
+IsWorkBy rows (work.Checkpoint store file) = Has rows (codes "STORE") store.now × Has rows (codes "FILE") file.now
 
 abbrev pub IsTaskBy : List Row → Task → Type 0
 IsTaskBy rows (task.Check m profile) = Has rows (codes "MODULE") m.now × IsProfileBy rows profile

@@ -76,7 +76,7 @@ fn has_name(row: &Row, name: &str) -> bool
     row.0 == name
 }
 
-static COMMANDS: [Row; 13] = [
+static COMMANDS: [Row; 14] = [
     row! {
         name: "check",
         words: &["MODULE"],
@@ -167,6 +167,14 @@ answers questions about the chain and the state after it",
         does: "\
 prints the marks by which the blocks of the file STORE are cut from nothing: each envelope
 in hex, and tick behind each block",
+    },
+    row! {
+        name: "checkpoint",
+        words: &["GENESIS", "STORE", "FILE"],
+        options: &[],
+        does: "\
+commits the file STORE again, writes a checkpoint of its chain to the file FILE, and prints
+the checkpoint's height and digest: whoever has the same chain gets the same digest",
     },
     row! {
         name: "public",

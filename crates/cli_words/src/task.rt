@@ -49,7 +49,7 @@ pub enum Task<'a> {
 #[derive(Clone, Copy, Drop)]
 pub struct Beginning<'a> {
     pub genesis: &'a str,
-    /// More modules at hand. `State`, `Trace` and `Marks` have none.
+    /// More modules at hand. `State`, `Trace`, `Marks` and `Checkpoint` have none.
     pub modules: Option<&'a str>,
     /// Seeds at hand. Only `Run`, `Threads` and `Peer` have them.
     pub keys: Option<&'a str>,
@@ -103,6 +103,11 @@ pub enum Work<'a> {
     /// Show the marks by which a store's blocks are cut from nothing.
     Marks {
         store: &'a str,
+    },
+    /// Write a checkpoint of a store's chain to a file.
+    Checkpoint {
+        store: &'a str,
+        file: &'a str,
     },
 }
 
@@ -255,6 +260,7 @@ fn work_of<'a>(alloc: Global, name: &str, command: &ArgMatches<'a>) -> Result<Wo
         "trace" => trace(alloc, command),
         "peer" => peer(command),
         "marks" => marks(command),
+        "checkpoint" => checkpoint(command),
         _ => Err(WordsFault::Usage),
     }
 }
@@ -328,6 +334,15 @@ fn marks<'a>(command: &ArgMatches<'a>) -> Result<Work<'a>, WordsFault>
 {
     Ok(Work::Marks {
         store: text(command, "STORE")?,
+    })
+}
+
+fn checkpoint<'a>(command: &ArgMatches<'a>) -> Result<Work<'a>, WordsFault>
+    ensures { Reads (IsWorkAs (codes "checkpoint") (rows_in command.now)) result }
+{
+    Ok(Work::Checkpoint {
+        store: text(command, "STORE")?,
+        file: text(command, "FILE")?,
     })
 }
 

@@ -9,7 +9,9 @@ use Rattle.cli_words.specs.declared.task.Task.{Task}
 use Rattle.cli_words.specs.declared.task.Task.TheVariants as task
 use Rattle.cli_words.specs.declared.task.Work.{Work}
 use Rattle.cli_words.specs.declared.task.Work.TheVariants as work
-use Rattle.cli_session.specs.Stored.{Stays, WhereNoStore, store_names}
+use Rattle.cli_lines.specs.Whole.{Stays, whole_names}
+use Rattle.cli_session.specs.Stored.{WhereNoStore}
+use Rattle.cli_peer.proofs.Checkpoints.{other_all}
 use Rattle.cli_peer.proofs.Keeping.{keeps_all}
 use Rattle.cli_session.proofs.Stored.{where_all}
 use Rattle.ledger_cli.specs.Leaving.{Leaves, LeavesFiles, SparesStore}
@@ -18,14 +20,16 @@ use Rattle.ledger_cli.specs.Verdicts.{verdict_answer}
 pub leaves_all : (known : Bool) (w : Work) (before after : FilesHeld) → after ≡ before → Leaves known w before after
 leaves_all known (work.Run events None) before after same = same
 leaves_all known (work.Run events (Some store)) before after same =
-    (changes_none known (store_names store.now) before after same, where_all known before store.now (after ≡ before) same)
+    (changes_none known (whole_names store.now) before after same, where_all known before store.now (after ≡ before) same)
 leaves_all known (work.Peer org store) before after same =
     (changes_none known (store.now ∷ []) before after same, keeps_all known store.now before after same)
+leaves_all known (work.Checkpoint store file) before after same =
+    (changes_none known (whole_names file.now) before after same, other_all known before file.now (after ≡ before) same)
 leaves_all known w before after same = same
 
 -- a run leaves all files where it has no store, and else all but that, or all where no store begins there
 pub leaves_run : (known : Bool) (events : Bor (List ℕ)) (store : Option (Bor (List ℕ))) (before after : FilesHeld) → (store ≡ None → after ≡ before) →
-    IfSome store (λ s. ChangesOnly known (store_names s.now) before after) → IfSome store (λ s. WhereNoStore known before s.now (after ≡ before)) →
+    IfSome store (λ s. ChangesOnly known (whole_names s.now) before after) → IfSome store (λ s. WhereNoStore known before s.now (after ≡ before)) →
     Leaves known (work.Run events store) before after
 leaves_run known events None before after kept others spares = kept refl
 leaves_run known events (Some store) before after kept others spares = (others, spares)

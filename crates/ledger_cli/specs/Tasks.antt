@@ -15,6 +15,7 @@ use Rattle.peer_answers.specs.declared.log_genesis.LogGenesis.{LogGenesis}
 use Rattle.peer_answers.specs.Answering.{Peer}
 use Rattle.cli_peer.specs.Keeping.{HoldsReached, KeepsTold}
 use Rattle.cli_peer.specs.Peering.{Peers, PeersBegin}
+use Rattle.cli_peer.specs.Checkpoints.{Checkpoints, SparesFile}
 use Rattle.cli_show.specs.Modules.{Checks, Digests}
 use Rattle.cli_show.specs.Simulations.{Simulates}
 use Rattle.cli_show.specs.declared.showing.Part.{Part}
@@ -84,6 +85,9 @@ Works log (work.Peer org store) k before after answer =
     Does (Peers p held k.input) (PeersBegin p held k.input) before after answer
     × OnOk answer (HoldsReached k.writes p store.now k.input k.before k.after)
     × KeepsTold k.writes p store.now k.input k.before k.after before after
+Works log (work.Checkpoint store file) k before after answer =
+    DoesAll (Checkpoints log k.writes (k.before store.now) (k.after file.now)) before after answer
+    × SparesFile log k.writes store.now file.now k.before k.after answer
 Works log (work.Marks store) k before after answer = DoesAll (Marks log.genesis (k.before store.now)) before after answer
 
 -- the files of a genesis are read, and then this is done; or one of them is refused, nothing is printed, and all files stay

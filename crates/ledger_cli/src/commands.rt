@@ -5,7 +5,8 @@ ghost use Rattle.cli_lines.specs.Places.{ChangesOnly};
 ghost use Rattle.cli_lines.specs.Told.{Answers, Begins, IsMore, IsTold, Prints, Says, Tells, Told};
 ghost use Rattle.ledger_cli.specs.Ends.{CarriesOut, Ends, PrintsLast, command_in, failure_status};
 ghost use Rattle.ledger_cli.specs.Leaving.{KeepsFiles, Leaves, LeavesFiles, SparesStore};
-ghost use Rattle.cli_session.specs.Stored.{WhereNoStore, store_names};
+ghost use Rattle.cli_lines.specs.Whole.{whole_names};
+ghost use Rattle.cli_session.specs.Stored.{WhereNoStore};
 ghost use Rattle.cli_session.specs.Whole.{RunBegins};
 ghost use Rattle.ledger_cli.specs.Tasks.{Comes, IsPart, Runs, WithGenesis, Works, known_files};
 ghost use Rattle.cli_lines.specs.Told.{IsHandedOn};
@@ -15,7 +16,7 @@ use crate::public::public;
 use crate::threading::threads;
 use crate::verdict::answer_of;
 use cli_lines::{Failure, Files, Location, Printer, explain_failure};
-use cli_peer::{Peering, peer};
+use cli_peer::{Checkpointing, Peering, checkpoint, peer};
 use cli_session::{RunFiles, run};
 use cli_show::{
     Asked, Part, Shown, Simulated, Span, audit, check, digest, marks, show, simulate, state, trace,
@@ -65,9 +66,9 @@ pub fn program<R: Threads + Wait + Sync + Send + Copy + 'static, F: Files, W: Wr
         → Ends (map string_bytes words.now)
         (known_files F.is_known (F.bytes files.old) (F.bytes files.new)
         (F.input_bytes files.old)) out.old out.new result }
-    // Only a run with a store and a peer write files, and none but the store's, where it is known
-    // what is written. A run writes none where that holds bytes with which no store begins. A peer
-    // keeps the whole records that its store held.
+    // Only a run with a store, a peer and `checkpoint` write files, and none but the store's or the
+    // checkpoint's, where it is known what is written. A run writes none where that holds bytes with
+    // which no store begins. A peer keeps the whole records that its store held.
     ensures files { KeepsFiles F.is_known (map string_bytes words.now) (F.bytes files.old)
         (F.bytes files.new) }
 {
@@ -329,6 +330,14 @@ fn do_work<R: Threads + Wait + Sync + Send + Copy + 'static, F: Files, W: Write>
             peer(&workers, alloc, files, log, &asked, out)
         }
         Work::Marks { store } => marks(&workers, alloc, files, genesis, store, out),
+        Work::Checkpoint { store, file } => {
+            let asked = Checkpointing {
+                genesis: begin.genesis,
+                store,
+                file,
+            };
+            checkpoint(&workers, alloc, files, log, &asked, out)
+        }
     }
 }
 
@@ -352,7 +361,7 @@ fn run_events<T: Threads + Sync, F: Files, W: Write>(
         (F.bytes files.old) (F.bytes files.new) result }
     ensures kept { names.now.store ≡ None → F.bytes files.new ≡ F.bytes files.old }
     ensures others { IfSome names.now.store
-        (λ s. ChangesOnly F.is_known (store_names s.now) (F.bytes files.old) (F.bytes files.new)) }
+        (λ s. ChangesOnly F.is_known (whole_names s.now) (F.bytes files.old) (F.bytes files.new)) }
     ensures spares { IfSome names.now.store
         (λ s. WhereNoStore F.is_known (F.bytes files.old) s.now
         (F.bytes files.new ≡ F.bytes files.old)) }

@@ -150,7 +150,8 @@ static NUMBERS: [NumberRow; 70] = rows! {
     702: "the store is damaged";
         "keep the blocks before the damage, and take the others from another peer, the orderer or \
         the log".
-    703: "a file cannot be opened, read or written, is not a store, or another process has it";
+    703: "a file cannot be opened, read or written, is not a store or a checkpoint, or another \
+        process has it";
         "see to the file, its rights and the disk and try again, or name another file".
     711: "a block of the store has other flags than the rules give";
         "take the store's own genesis file, or that block and those after it again".

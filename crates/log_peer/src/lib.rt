@@ -11,6 +11,7 @@ mod peering;
 mod refusal;
 mod storing;
 
+pub use opening::recommit_all;
 pub use peering::{LogPeer, PeerBatch, PeerReport};
 pub use refusal::{StoreRefusal, Unopened};
 pub use storing::StoredChain;

@@ -107,7 +107,7 @@ pub(crate) fn push_size(places: &mut Places, committed: &CommittedBlock) -> Resu
 
 /// The chain of all the records of a store, which are committed again as they stand, where each of
 /// them ends, and how many bytes stand behind them. Refused as `StoredChain::open` refuses.
-pub(crate) fn recommit_all<T: Threads + Sync, V: Watch, R: CountedRead>(
+pub fn recommit_all<T: Threads + Sync, V: Watch, R: CountedRead>(
     tags: &TagChecks<'_, T, V>,
     alloc: Global,
     rules: &Rules,

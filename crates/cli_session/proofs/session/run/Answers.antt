@@ -7,7 +7,8 @@ use Rattle.cli_lines.proofs.Silence.{no_less, tells_by}
 use Rattle.cli_lines.specs.Places.{FilesHeld}
 use Rattle.cli_lines.specs.Sealing.{lacks_seed}
 use Rattle.cli_lines.specs.Told.{Answers, Begins}
-use Rattle.cli_session.specs.Stored.{HoldsAsked, Stays}
+use Rattle.cli_lines.specs.Whole.{Stays}
+use Rattle.cli_session.specs.Stored.{HoldsAsked}
 use Rattle.cli_session.specs.Whole.{LinesBegin, LinesComeTo, RunBegins}
 use Rattle.cli_session.proofs.Pieces.{fresh_reader}
 use Rattle.cli_session.proofs.Staying.{asked_stay}

@@ -4,7 +4,8 @@ use Rattle.cli_lines.proofs.Printing.{nothing_same, on_err, printed_on_err}
 use Rattle.cli_lines.proofs.Silence.{no_less, tells_by}
 use Rattle.cli_lines.specs.Places.{ChangesOnly, FilesHeld}
 use Rattle.cli_lines.specs.Told.{Answers}
-use Rattle.cli_session.specs.Stored.{HoldsAsked, HoldsPlaced, store_names}
+use Rattle.cli_lines.specs.Whole.{whole_names}
+use Rattle.cli_session.specs.Stored.{HoldsAsked, HoldsPlaced}
 use Rattle.cli_session.specs.Whole.{LinesComeTo}
 use Rattle.cli_session.proofs.Staying.{asked_stay, asked_stay_by, asked_stay_none}
 use Rattle.cli_session.proofs.Stored.{asked_all, asked_by, asked_kept, asked_none, asked_nowhere, asked_store, some_none}
@@ -36,7 +37,7 @@ returns-in_ok-place-in-Some-clause-others g c =
     let r = c.run_into-ran in
     let known = g.F.Files.is_known in
     let store = c.args.names.now.store in
-    subst (λ (h : FilesHeld). IfSome store (λ s. ChangesOnly known (store_names s.now) (bytes c.args.files.now) h)) (sym c.explain_replaced.ensures.kept)
+    subst (λ (h : FilesHeld). IfSome store (λ s. ChangesOnly known (whole_names s.now) (bytes c.args.files.now) h)) (sym c.explain_replaced.ensures.kept)
     (asked_by known store c.in-Some.store c.in_ok-place-in-Some.place.target (bytes c.args.files.now) (bytes c.place_of.new.files) (bytes r.new.files)
     c.in-Some.is c.in_ok-place-in-Some.ensures.file c.in_ok-place-in-Some.ensures.kept r.ensures.others)
 

@@ -142,3 +142,20 @@ returns-in-Peer-clause-tells g c = c.peer.ensures.tells
 
 pub returns-in-Marks-clause-tells : goal.returns-in-Marks-clause-tells
 returns-in-Marks-clause-tells g c = c.marks.ensures.tells
+
+pub returns-in-Checkpoint-clause-works : goal.returns-in-Checkpoint-clause-works
+returns-in-Checkpoint-clause-works g c =
+    let r = c.checkpoint in
+    let input = g.F.Files.input_bytes c.args.files.now in
+    let k = known_files g.F.Files.is_known (g.F.Files.bytes c.args.files.now) (g.F.Files.bytes r.new.files) input in
+    subst (λ (w : Work). Works c.args.subject.log.now w k c.args.out.now r.new.out r.result) (sym c.in-Checkpoint.is)
+    ((r.ensures.answers, r.ensures.begins), r.ensures.stays)
+
+pub returns-in-Checkpoint-clause-files : goal.returns-in-Checkpoint-clause-files
+returns-in-Checkpoint-clause-files g c =
+    let r = c.checkpoint in
+    subst (λ (w : Work). Leaves g.F.Files.is_known w (g.F.Files.bytes c.args.files.now) (g.F.Files.bytes r.new.files)) (sym c.in-Checkpoint.is)
+    (r.ensures.others, r.ensures.spares)
+
+pub returns-in-Checkpoint-clause-tells : goal.returns-in-Checkpoint-clause-tells
+returns-in-Checkpoint-clause-tells g c = c.checkpoint.ensures.tells

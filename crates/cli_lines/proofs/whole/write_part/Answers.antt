@@ -1,6 +1,6 @@
 use Rattle.std.proofs.Common.{ℕ, List, [], ◌∷◌}
 use Rattle.cli_lines.proofs.Changes.{changes_kept, changes_then}
-use Rattle.cli_session.proofs.storing.write_part.Goals as goal
+use Rattle.cli_lines.proofs.whole.write_part.Goals as goal
 
 pub returns-in_default-clause-others : goal.returns-in_default-clause-others
 returns-in_default-clause-others g c =

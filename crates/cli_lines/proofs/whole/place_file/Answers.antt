@@ -1,7 +1,7 @@
 use Rattle.std.proofs.Common.{ℕ, List, [], ◌∷◌, ap, sym, ◌∙◌}
 use Rattle.cli_lines.specs.Places.{FilesHeld}
 use Rattle.cli_lines.proofs.Changes.{changes_first, changes_kept, changes_next, changes_then}
-use Rattle.cli_session.proofs.storing.place_file.Goals as goal
+use Rattle.cli_lines.proofs.whole.place_file.Goals as goal
 
 pub returns-in_default-clause-others : goal.returns-in_default-clause-others
 returns-in_default-clause-others g c =

@@ -1,7 +1,7 @@
 use Rattle.std.proofs.Common.{ℕ, List, [], ◌∷◌, ap, rules, ◌∙◌}
 use Rattle.cli_lines.specs.Places.{FilesHeld}
 use Rattle.cli_lines.proofs.Changes.{changes_first, changes_kept, changes_then}
-use Rattle.cli_session.proofs.storing.replace_file.Goals as goal
+use Rattle.cli_lines.proofs.whole.replace_file.Goals as goal
 
 pub returns-else-keep-clause-others : goal.returns-else-keep-clause-others
 returns-else-keep-clause-others g c =
