@@ -1,13 +1,13 @@
 //! What no form of a field says: what stands twice or in no order, and modules and policies.
 
-use crate::MaybeWords;
-use crate::fault::{Span, Unit, counted};
+use crate::fault::ranged;
 use crate::place::{Place, front, items_of, listed, text_of};
-use crate::policy_text::fault_words;
 use crate::tables::MOST_ARGUMENT_BYTES;
 use crate::walk::{Found, Wrong};
+use crate::{MaybeWords, Words};
 use fab_types::OrgName;
-use policy_language::parse;
+use ledger_table::meaning_of;
+use policy_language::{PolicyFault, parse};
 use serde_json::Value;
 use std::alloc::{AllocError, Global};
 use wasm_file::{ModuleRefusal, defined_functions};
@@ -35,8 +35,8 @@ pub(crate) fn too_long(value: &Value) -> Option<Found<'_>> {
             bytes = bytes.saturating_add(text.len()).saturating_add(1);
         }
     }
-    let span = Span(0, MOST_ARGUMENT_BYTES);
-    let fault = counted(bytes.saturating_sub(1), Unit::Byte, span)?;
+    let count = bytes.saturating_sub(1) as u64;
+    let fault = ranged("the count of its bytes", count, 0, MOST_ARGUMENT_BYTES)?;
     Some(Found {
         place: Place::of_field("args"),
         wrong: Wrong::Value(fault),
@@ -55,8 +55,14 @@ pub(crate) fn names_words(alloc: Global, file: &Value) -> MaybeWords {
     let Some((place, name)) = first_unknown(file, &orgs) else {
         return Ok(None);
     };
-    let there = listed(alloc, &orgs)?;
-    format!(in alloc; "{place}no organisation has the name {name:?}; there are {there}").map(Some)
+    let words = stranger_words(alloc, name, &orgs)?;
+    format!(in alloc; "{place}{words}").map(Some)
+}
+
+/// That no organisation has a name.
+fn stranger_words(alloc: Global, name: &str, orgs: &[&str]) -> Words {
+    let there = listed(alloc, orgs)?;
+    format!(in alloc; "no organisation has the name {name:?}; there are {there}")
 }
 
 /// The first item of a list whose text in this field an item before it has, and the first of these;
@@ -154,6 +160,37 @@ fn policy_words(alloc: Global, place: Place<'_>, text: Option<&str>, orgs: &[&st
         }
         None => Ok(None),
     }
+}
+
+/// What a policy is.
+const POLICY: &str = "'Org', or AND, OR or OutOf of policies, as OutOf(2, 'A', 'B', 'C')";
+
+/// What is wrong in the text of a policy, where these organisations are known.
+fn fault_words(alloc: Global, text: &str, fault: PolicyFault, orgs: &[&str]) -> Words {
+    match fault {
+        PolicyFault::Memory => Err(AllocError),
+        PolicyFault::Syntax(offset) => {
+            let letter = offset.saturating_add(1);
+            format!(in alloc;
+                "it goes wrong at letter {letter} of at most 1024; a policy is {POLICY}"
+            )
+        }
+        PolicyFault::UnknownOrganisation => stranger_words(alloc, stranger_in(text, orgs), orgs),
+        _ => {
+            let meaning = meaning_of(fault.number());
+            format!(in alloc; "{meaning}")
+        }
+    }
+}
+
+/// The first name in a policy's text that none of these organisations has.
+fn stranger_in<'a>(text: &'a str, orgs: &[&str]) -> &'a str {
+    for (place, name) in text.split('\'').enumerate() {
+        if place % 2 == 1 && !(&*orgs).contains(&name) {
+            return name;
+        }
+    }
+    ""
 }
 
 /// The first module of a genesis file that is refused, or of a modules file, and why, in words.

@@ -1,5 +1,6 @@
 //! Why a text is no JSON (RFC 8259, sections 2 to 7).
 
+use crate::Words;
 use serde_json::{Error, Value};
 use std::alloc::{AllocError, Global};
 
@@ -16,177 +17,67 @@ pub(crate) fn read_json(alloc: Global, bytes: &[u8], is_file: bool) -> Result<Re
     if bytes.is_empty() {
         return Ok(Read::None(String::from_str(alloc, "it is empty")?));
     }
-    let (line, column, wrong) = match std::str::from_utf8(bytes) {
+    let words = match std::str::from_utf8(bytes) {
         Ok(text) => match Value::from_str(alloc, text) {
             Ok(value) => return Ok(Read::Json(value)),
             Err(error) if error.is_memory() => return Err(AllocError),
-            Err(error) => first_fault(bytes, &error),
+            Err(error) => words_of(alloc, bytes, &error, is_file),
         },
         Err(fault) => {
-            let (line, column) = place_behind(bytes, fault.valid_up_to());
-            (line, column, "this byte is no UTF-8")
+            let place = fault.valid_up_to().saturating_add(1);
+            format!(in alloc; "byte {place} is no UTF-8")
         }
-    };
-    let words = if is_file {
-        format!(in alloc; "line {line}, column {column}: {wrong}")
-    } else {
-        format!(in alloc; "column {column}: {wrong}")
     };
     Ok(Read::None(words?))
 }
 
-/// A line, a column, and what is wrong there.
-type Fault = (usize, usize, &'static str);
-
-/// The line and the column behind so many bytes of a text.
-fn place_behind(text: &[u8], count: usize) -> (usize, usize) {
-    let (mut line, mut column) = (1usize, 1usize);
-    for byte in text.iter().take(count) {
+/// Where a text is no JSON, and why.
+fn words_of(alloc: Global, text: &[u8], error: &Error, is_file: bool) -> Words {
+    let (line, mut column) = (error.line(), error.column());
+    let mut offset = offset_of(text, line, column);
+    // A text that ends too early goes wrong behind its last byte, unless that is in quotes.
+    if error.is_eof() && offset.saturating_add(1) >= text.len() {
+        offset = text.len();
         column = column.saturating_add(1);
-        if *byte == b'\n' {
-            line = line.saturating_add(1);
-            column = 1;
-        }
     }
-    (line, column)
-}
-
-/// The first place of a text that is at fault, and what is expected there: before the place where
-/// the reader stood that told this error, or there. It stands at the end of a text that ends early.
-fn first_fault(text: &[u8], error: &Error) -> Fault {
-    let (mut at, mut line, mut column) = ((State::Value, 1), 1usize, 1usize);
-    for byte in text {
-        let is_told = line == error.line() && column == error.column() && !error.is_eof();
-        match after(at, *byte) {
-            Some(now) if !is_told => at = now,
-            _ => return (line, column, expected(at, Some(*byte))),
-        }
-        column = column.saturating_add(1);
-        if *byte == b'\n' {
-            line = line.saturating_add(1);
-            column = 1;
-        }
-    }
-    (line, column, expected(at, None))
-}
-
-/// What has to come, or what was begun.
-#[derive(Clone, Copy)]
-enum State {
-    Value,
-    /// The first item of a list, or its end.
-    FirstItem,
-    /// The name of the first field of an object, or its end.
-    FirstName,
-    Name,
-    Colon,
-    /// What is behind a value.
-    Behind,
-    /// A text was begun; whether it is a field's name.
-    Text(bool),
-    /// A backslash in such a text.
-    Escape(bool),
-    /// A number or a word was begun.
-    Word,
-}
-
-/// What has to come, and the brackets that are open: bits below the highest 1, the last bracket the
-/// lowest, those of objects 1.
-type At = (State, u128);
-
-/// How many brackets may be open.
-const MOST_OPEN: u32 = 127;
-
-/// What comes behind a byte, if it may stand there. Letters of texts, numbers and words are not
-/// judged.
-fn after(at: At, byte: u8) -> Option<At> {
-    let (state, open) = at;
-    match (state, byte) {
-        (State::Text(is_name), _) => Some((in_text(is_name, byte), open)),
-        (State::Escape(is_name), _) => Some((State::Text(is_name), open)),
-        (State::Word, b' ' | b'\t' | b'\n' | b'\r') => Some((State::Behind, open)),
-        (_, b' ' | b'\t' | b'\n' | b'\r') => Some(at),
-        (State::FirstName | State::Name, b'"') => Some((State::Text(true), open)),
-        (State::FirstName, b'}') | (State::FirstItem, b']') => Some((State::Behind, open >> 1)),
-        (State::Colon, b':') => Some((State::Value, open)),
-        (State::Value | State::FirstItem, _) => behind_first(open, byte),
-        (State::Behind | State::Word, b',' | b'}' | b']') => behind_value(open, byte),
-        (State::Word, _) if !matches!(byte, b'"' | b'{' | b'[' | b':') => Some(at),
-        _ => None,
-    }
-}
-
-/// What comes behind a byte of a text.
-fn in_text(is_name: bool, byte: u8) -> State {
-    match byte {
-        b'\\' => State::Escape(is_name),
-        b'"' if is_name => State::Colon,
-        b'"' => State::Behind,
-        _ => State::Text(is_name),
-    }
-}
-
-/// What comes behind the first byte of a value.
-fn behind_first(open: u128, byte: u8) -> Option<At> {
-    match byte {
-        b'"' => Some((State::Text(false), open)),
-        b'{' | b'[' if open >> MOST_OPEN == 1 => None,
-        b'{' => Some((State::FirstName, (open << 1) | 1)),
-        b'[' => Some((State::FirstItem, open << 1)),
-        b'}' | b']' | b':' | b',' => None,
-        _ => Some((State::Word, open)),
-    }
-}
-
-/// What comes behind a comma or a bracket that stands behind a value.
-fn behind_value(open: u128, byte: u8) -> Option<At> {
-    match (byte, bracket(open)) {
-        (b',', Some(b'{')) => Some((State::Name, open)),
-        (b',', Some(_)) => Some((State::Value, open)),
-        (b'}', Some(b'{')) | (b']', Some(b'[')) => Some((State::Behind, open >> 1)),
-        _ => None,
-    }
-}
-
-/// The last bracket that is open.
-fn bracket(open: u128) -> Option<u8> {
-    if open == 1 {
-        None
-    } else if open & 1 == 1 {
-        Some(b'{')
+    let wrong = expected(&text[..offset.min(text.len())], text.get(offset).copied());
+    if is_file {
+        format!(in alloc; "line {line}, column {column}: {wrong}")
     } else {
-        Some(b'[')
+        format!(in alloc; "column {column}: {wrong}")
     }
 }
 
-/// What is expected where this byte or the end is at fault.
-fn expected(at: At, byte: Option<u8>) -> &'static str {
-    match (at.0, byte) {
-        (State::Value | State::FirstItem, Some(b'[' | b'{')) if at.1 >> MOST_OPEN == 1 => {
-            "more than 127 brackets stand inside one another"
+/// The offset of a line and a column of a text.
+fn offset_of(text: &[u8], line: usize, column: usize) -> usize {
+    let (mut start, mut before) = (0usize, line);
+    for (offset, byte) in text.iter().enumerate() {
+        if before <= 1 {
+            break;
         }
-        (State::Value | State::FirstItem | State::FirstName | State::Name, Some(b'"')) => {
+        if *byte == b'\n' {
+            start = offset.saturating_add(1);
+            before = before.saturating_sub(1);
+        }
+    }
+    start.saturating_add(column).saturating_sub(1)
+}
+
+/// What is expected behind these bytes, where this byte or the end is at fault.
+fn expected(before: &[u8], byte: Option<u8>) -> &'static str {
+    let last = before.trim_ascii_end().last().copied();
+    match (last, byte) {
+        (None | Some(b'[' | b':' | b'{' | b','), Some(b'"')) => {
             "this text has no end, or a letter that has to be escaped"
         }
-        (State::Value | State::FirstItem, Some(byte))
-            if byte.is_ascii_alphanumeric() || byte == b'-' => {
-            "this is no number, and not `true`, `false` or `null`"
+        (Some(b'[' | b':'), Some(b'[' | b'{')) => {
+            "more than 127 brackets stand inside one another"
         }
-        (State::Value, _) => "expected a value",
-        (State::FirstItem, _) => "expected a value or `]`",
-        (State::FirstName, _) => "expected the name of a field in quotes or `}`",
-        (State::Name, _) => "expected the name of a field in quotes",
-        (State::Colon, _) => "expected `:`",
-        (State::Text(_) | State::Escape(_), _) => "expected the rest of a text and a quote",
-        (State::Behind | State::Word, _) => expected_behind(at.1),
-    }
-}
-
-/// What is expected behind a value.
-fn expected_behind(open: u128) -> &'static str {
-    match bracket(open) {
-        None => "expected the end",
-        Some(b'{') => "expected `,` or `}`",
-        Some(_) => "expected `,` or `]`",
+        (Some(b'{'), _) => "expected the name of a field in quotes, or `}`",
+        (Some(b','), _) => "expected a value, or in an object the name of a field in quotes",
+        (None | Some(b'[' | b':'), _) => {
+            "expected a number, a text in quotes, `true`, `false`, `null`, `[` or `{`"
+        }
+        _ => "expected `:`, `,`, a closing bracket or the end",
     }
 }

@@ -11,7 +11,6 @@ mod behind;
 mod fault;
 mod json_text;
 mod place;
-mod policy_text;
 mod reasons;
 mod tables;
 mod walk;

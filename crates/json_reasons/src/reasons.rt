@@ -1,20 +1,21 @@
 //! Why a file or a line is refused.
 
 use crate::behind::{modules_words, names_words, out_of_order, policies_words, too_long};
-use crate::fault::ValueKind;
+use crate::fault::kind_of;
 use crate::json_text::{Read, read_json};
 use crate::place::{front, listed};
 use crate::tables::{Object, rows};
 use crate::walk::{ObjectKind, Walk, words_of};
 use crate::{MaybeWords, Words};
 use json_genesis::GenesisRefusal;
+use ledger_table::meaning_of;
 use nearest_word::nearest;
 use serde_json::Value;
 use std::alloc::{AllocError, Global};
 
 /// Why a genesis file is refused: one sentence with the place, the reason and what is possible
 /// there, which ends with the number of the refusal in parentheses. Where these bytes have no fault
-/// of that number, it is the rule that the number stands for.
+/// of that number, it is what the number stands for.
 pub fn genesis_reason(
     alloc: Global,
     bytes: &[u8],
@@ -45,8 +46,8 @@ fn file_words(alloc: Global, read: &Read, refusal: GenesisRefusal, is_genesis: b
     match found {
         Some(words) => format!(in alloc; "{words} ({number})"),
         None => {
-            let rule = rule_of(refusal);
-            format!(in alloc; "{rule} ({number})")
+            let meaning = meaning_of(number);
+            format!(in alloc; "{meaning} ({number})")
         }
     }
 }
@@ -64,19 +65,6 @@ fn fault_in(alloc: Global, file: &Value, refusal: GenesisRefusal, is_genesis: bo
     match found {
         Some(found) => words_of(alloc, found).map(Some),
         None => Ok(None),
-    }
-}
-
-/// The rule that a file breaks which is refused so.
-fn rule_of(refusal: GenesisRefusal) -> &'static str {
-    match refusal {
-        GenesisRefusal::Memory => "there is no more memory",
-        GenesisRefusal::Json => "the file is not JSON",
-        GenesisRefusal::Field => "a field is missing, unknown or of the wrong kind, or is no hex",
-        GenesisRefusal::Range => "a number, a length, a name or a key is out of its range",
-        GenesisRefusal::Module => "a module is refused",
-        GenesisRefusal::Policy => "a policy is refused",
-        GenesisRefusal::Names => "a name or a key stands twice, or a peer has no organisation",
     }
 }
 
@@ -129,7 +117,7 @@ fn value_words(alloc: Global, value: &Value, wanted: Object, names: Names) -> Wo
             }
         }
         (Some(held), _) => {
-            let kind = ValueKind::of(held).words();
+            let kind = kind_of(held);
             format!(in alloc; "field \"{field}\": it is {kind}, and has to be a text")
         }
         (None, Value::Object(_)) => format!(in alloc; "field \"{field}\" is missing"),

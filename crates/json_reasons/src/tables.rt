@@ -17,8 +17,8 @@ pub(crate) enum Form {
     Policy,
     /// Hex of the least count of bytes to the greatest.
     Hex(u64, u64),
-    /// The same from 0 bytes on, or `-` for none.
-    Argument(u64),
+    /// The same of an argument's bytes, or `-` for none.
+    Argument,
     /// Hex of a public key of Ed25519.
     PublicKey,
     /// A list of the least count of items to the greatest.
@@ -90,7 +90,7 @@ macro_rules! field {
     (peer) => { ("peer", Form::Number(0, u64::MAX)) };
     (seat) => { ("seat", Form::Number(0, u64::MAX)) };
     (chaincode) => { ("chaincode", Form::ChaincodeName) };
-    (arg) => { ("arg", Form::Argument(MOST_ARGUMENT_BYTES)) };
+    (arg) => { ("arg", Form::Argument) };
     (args) => { ("args", Form::List(0, u64::MAX, Items::Texts)) };
     (nonce) => { ("nonce", Form::Hex(16, 16)) };
     (upgrade) => { ("upgrade", Form::ChaincodeName) };

@@ -1,7 +1,7 @@
 //! The first fault of an input by the table of forms, and where it is.
 
 use crate::Words;
-use crate::fault::{Fault, ValueKind, fault_of};
+use crate::fault::{Fault, fault_of, kind_of};
 use crate::place::{Place, front};
 use crate::tables::{Field, Form, Items, MODULES_FILE, Object, rows};
 use json_genesis::GenesisRefusal;
@@ -90,7 +90,7 @@ impl Walk {
         value: &'a Value,
     ) -> Option<Found<'a>> {
         let Value::Object(object) = value else {
-            let fault = Fault::Kind(ValueKind::of(value), ValueKind::Object);
+            let fault = Fault::Kind(kind_of(value), "an object");
             return self.told(at, Some(fault));
         };
         let fields = fields_of(kind, object);

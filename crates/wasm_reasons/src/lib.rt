@@ -1,24 +1,18 @@
 //! Why bytes give no valid module, in one sentence for those who wrote the module.
 //!
-//! The sentence says where the fault is and what stands there. It is made by functions that look at
-//! the bytes once more, beside the exact readers, whose answer they take as given: in bytes that
-//! spell no module they go to the offset of the fault, and a module that is not valid they type up
-//! to the first fault.
+//! The sentence says where the fault is, and what it is by the program's table of numbers. It is
+//! made by functions that look at the bytes once more, beside the exact readers, whose answer they
+//! take as given: in bytes that spell no module they go to the offset of the fault, and of a module
+//! that is not valid they ask the exact readers again, for less and less of it.
 #![tactic(auto)]
 
+mod cut;
 mod items;
-mod lookup;
-mod malformed;
-mod naming;
-mod operands;
 mod operators;
 mod place;
 mod reader;
 mod reason;
-mod rules;
+mod search;
 mod section;
-mod source;
-mod types;
-mod typing;
 
 pub use reason::module_reason;

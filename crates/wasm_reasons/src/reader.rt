@@ -1,217 +1,221 @@
 //! A reader of a module's bytes that goes to where something is wrong.
 
-use crate::place::{External, Place};
-use crate::section::CUSTOM;
-use crate::source::{Source, Stop};
+use crate::place::{Name, Place};
+use crate::section::{CODE, CUSTOM, FUNCTION, most_items};
+use std::mem;
 use wasm_bytes::Cursor;
-use wasm_decode::FaultKind;
 use wasm_decode::limits::MODULE_BYTES;
 
-/// What a part of a module has to be.
-#[derive(Clone, Copy)]
-pub(crate) enum Form {
-    Free,
-    /// A byte that stands for this.
-    Byte(&'static str),
-    /// A number that is at most so large.
-    AtMost(u32),
-}
-
-/// A part of a module, as it is told.
+/// A part of a module: what it has to be, where it begins, and of a number which it is and how
+/// large it may be.
 #[derive(Clone, Copy)]
 pub(crate) struct Part {
     pub(crate) name: &'static str,
-    pub(crate) form: Form,
+    start: usize,
+    pub(crate) number: u32,
+    pub(crate) most: u32,
 }
 
-/// A reader of a part of a module, which knows where it stands.
-///
-/// It stops behind the part that begins at an offset, and inside a part that cannot be read.
+/// A reader of a module, which knows where it stands. It stops inside a part that cannot be read.
 #[derive(Drop)]
 pub(crate) struct Reader<'a> {
-    pub(crate) source: Source<'a>,
     pub(crate) cursor: Cursor<'a>,
-    // Where the part begins behind which it stops.
-    until: usize,
-    // Where the last byte is that it has to look at: what has a size and ends before is passed.
-    last_byte: usize,
-    /// What the bytes belong to that it reads.
-    pub(crate) holder: &'static str,
-    pub(crate) place: Place,
-    /// The section behind which the next one stands, custom sections left out.
-    pub(crate) last_section: u8,
+    /// It stops behind the part that begins at this offset.
+    pub(crate) until: usize,
+    /// It stops before the first item that begins here or behind; of the code section before the
+    /// first such instruction.
+    pub(crate) limit: usize,
     /// The part that was begun last.
     pub(crate) part: Part,
-    /// The number that was read last.
-    pub(crate) number: u32,
-    /// How many instructions of the expression stand before the one that is read, and how many
-    /// blocks round it.
+    /// The place of the item or instruction that was begun last before the limit.
+    pub(crate) place: Place<'a>,
+    /// The section: its id, its offset, and that of its first item.
+    pub(crate) section: u8,
+    pub(crate) start: usize,
+    pub(crate) items: usize,
+    /// The item of the section: its index and its offset, and of a function that of its locals.
+    pub(crate) index: u32,
+    pub(crate) item: usize,
+    pub(crate) body: usize,
+    /// How many functions the module imports, and how many it defines.
+    pub(crate) imported: u32,
+    pub(crate) functions: u32,
+    /// How many instructions of the expression were read.
     pub(crate) instructions: u32,
-    pub(crate) blocks: u32,
-    /// The import or the export that was read last.
-    pub(crate) external: Option<External<'a>>,
+    /// The blocks that are open: bits below the highest 1, the innermost the lowest, that of an
+    /// `if` with no `else` yet 1.
+    pub(crate) open: u128,
+    /// The function of which an export is looked for, and the name of the first one.
+    pub(crate) sought: Option<u32>,
+    pub(crate) exported: Name<'a>,
 }
 
 impl<'a> Reader<'a> {
     /// A reader of a module that goes on as far as it can.
-    pub(crate) fn new(source: Source<'a>) -> Reader<'a> {
+    pub(crate) fn new(bytes: &'a [u8]) -> Reader<'a> {
         Reader {
-            source,
-            cursor: Cursor::new(source.bytes),
+            cursor: Cursor::new(bytes),
             until: usize::MAX,
-            last_byte: usize::MAX,
-            holder: "the module",
-            place: Place::NOWHERE,
-            last_section: CUSTOM,
+            limit: usize::MAX,
             part: Part {
-                name: "its first eight bytes",
-                form: Form::Free,
+                name: "",
+                start: 0,
+                number: 0,
+                most: u32::MAX,
             },
-            number: 0,
+            place: Place::NOWHERE,
+            section: CUSTOM,
+            start: 0,
+            items: 0,
+            index: 0,
+            item: 0,
+            body: 0,
+            imported: 0,
+            functions: 0,
             instructions: 0,
-            blocks: 0,
-            external: None,
+            open: 1,
+            sought: None,
+            exported: Name::NONE,
         }
     }
 
-    /// A reader of a module that goes to the part with a fault. Bytes that end early do so before
-    /// its offset.
-    pub(crate) fn to(source: Source<'a>, kind: FaultKind, offset: usize) -> Reader<'a> {
-        let mut reader = Reader::new(source);
-        if kind == FaultKind::EndedEarly {
-            reader.last_byte = offset.saturating_sub(1);
-        } else {
-            reader.until = offset;
-            reader.last_byte = offset;
-        }
-        reader
-    }
-
-    /// Goes into the section of an id, or into one with a byte that it has to look at, and tells
-    /// its id. None at the end of the module.
-    pub(crate) fn enter(&mut self, wanted: Option<u8>) -> Result<Option<u8>, Stop> {
-        if self.cursor.split(8).is_none() || self.until < 8 {
-            return Err(Stop::Found);
-        }
+    /// Reads the module. None if it stopped.
+    pub(crate) fn module(&mut self) -> Option<()> {
+        self.bytes(4, "the magic number of a module (00 61 73 6d)")?;
+        self.bytes(4, "the version of a module (01 00 00 00)")?;
         for _ in 0..MODULE_BYTES {
-            self.place = Place::NOWHERE;
+            if !self.is_past() {
+                self.place = Place::NOWHERE;
+            }
             if self.cursor.is_at_end() {
                 break;
             }
-            let id = self.byte("the id of a section")?;
-            self.place.section = Some(id);
-            let content = self.sized("its size")?;
-            if wanted == Some(id) || self.has_to_enter() {
-                self.go_into("the section", content);
-                return Ok(Some(id));
-            }
-            if id != CUSTOM {
-                self.last_section = id;
-            }
+            self.next_section()?;
         }
-        Ok(None)
+        Some(())
     }
 
-    /// Whether it has to look at what it passed last.
-    pub(crate) fn has_to_enter(&self) -> bool {
-        self.last_byte < self.cursor.offset()
+    /// Whether it stands at the limit or behind.
+    pub(crate) fn is_past(&self) -> bool {
+        self.cursor.offset() >= self.limit
     }
 
-    /// Reads a part by itself from here on.
-    pub(crate) fn go_into(&mut self, holder: &'static str, content: Cursor<'a>) {
-        self.holder = holder;
-        self.cursor = content;
-    }
-
-    /// Goes to the first item of a section, and tells how many there are.
-    pub(crate) fn enter_items(&mut self, section: u8) -> Result<u32, Stop> {
-        match self.enter(Some(section))? {
-            Some(_) => self.number("the count of its items"),
-            None => Ok(0),
+    fn next_section(&mut self) -> Option<()> {
+        self.start = self.cursor.offset();
+        let is_past = self.is_past();
+        self.section = self.byte("the id of a later section (at most 0b)")?;
+        if !is_past {
+            self.place.section = Some(self.section);
         }
+        let content = self.sized("its size")?;
+        let behind = mem::replace(&mut self.cursor, content);
+        self.content()?;
+        self.cursor = behind;
+        Some(())
+    }
+
+    // What the section holds.
+    fn content(&mut self) -> Option<()> {
+        if self.section == CUSTOM {
+            let _ = self.name("its name")?;
+            return Some(());
+        }
+        let count = self.number("the count of its items", most_items(self.section))?;
+        if self.section == FUNCTION {
+            self.functions = count;
+        }
+        self.items = self.cursor.offset();
+        for index in 0..count {
+            self.enter_item(index)?;
+            self.read_item()?;
+        }
+        Some(())
+    }
+
+    // Goes to an item of the section.
+    fn enter_item(&mut self, index: u32) -> Option<()> {
+        self.index = index;
+        self.item = self.cursor.offset();
+        if !self.is_past() {
+            self.place.item = Some(index);
+            self.place.name = Name::NONE;
+            self.place.instruction = None;
+        } else if self.section != CODE {
+            return None;
+        }
+        Some(())
     }
 
     /// What stands behind its size.
-    pub(crate) fn sized(&mut self, size: &'static str) -> Result<Cursor<'a>, Stop> {
-        let size = self.number(size)?;
-        self.cursor.split(size).ok_or(Stop::Found)
+    pub(crate) fn sized(&mut self, size: &'static str) -> Option<Cursor<'a>> {
+        let size = self.number(size, u32::MAX)?;
+        self.cursor.split(size)
     }
 
-    /// Begins a part, and tells where.
-    pub(crate) fn begin(&mut self, name: &'static str, form: Form) -> usize {
-        self.part = Part { name, form };
-        self.cursor.offset()
+    /// Begins a part.
+    pub(crate) fn begin(&mut self, name: &'static str, most: u32) {
+        self.part = Part {
+            name,
+            start: self.cursor.offset(),
+            number: 0,
+            most,
+        };
     }
 
-    /// Stops behind the part that began at an offset, if it has to.
-    pub(crate) fn end(&self, offset: usize) -> Result<(), Stop> {
-        if offset == self.until {
-            return Err(Stop::Found);
+    /// Goes on behind a part, if that is not the last.
+    pub(crate) fn end(&self) -> Option<()> {
+        if self.part.start == self.until {
+            None
+        } else {
+            Some(())
         }
-        Ok(())
-    }
-
-    // The number of 32 bits, of this form.
-    fn number_as(&mut self, name: &'static str, form: Form) -> Result<u32, Stop> {
-        let offset = self.begin(name, form);
-        self.number = self.cursor.u32_leb()?;
-        self.end(offset)?;
-        Ok(self.number)
-    }
-
-    /// The number of 32 bits.
-    pub(crate) fn number(&mut self, name: &'static str) -> Result<u32, Stop> {
-        self.number_as(name, Form::Free)
     }
 
     /// The number of 32 bits, which is at most so large.
-    pub(crate) fn number_to(&mut self, most: u32, name: &'static str) -> Result<u32, Stop> {
-        self.number_as(name, Form::AtMost(most))
+    pub(crate) fn number(&mut self, name: &'static str, most: u32) -> Option<u32> {
+        self.begin(name, most);
+        let number = self.cursor.u32_leb().ok()?;
+        self.part.number = number;
+        self.end()?;
+        Some(number)
     }
 
     /// So many numbers.
-    pub(crate) fn numbers(&mut self, count: u32, name: &'static str) -> Result<(), Stop> {
+    pub(crate) fn numbers(&mut self, count: u32, name: &'static str) -> Option<()> {
         for _ in 0..count {
-            let _ = self.number(name)?;
+            let _ = self.number(name, u32::MAX)?;
         }
-        Ok(())
-    }
-
-    /// A byte of this form.
-    pub(crate) fn byte_as(&mut self, name: &'static str, form: Form) -> Result<u8, Stop> {
-        let offset = self.begin(name, form);
-        let byte = self.cursor.byte()?;
-        self.end(offset)?;
-        Ok(byte)
+        Some(())
     }
 
     /// The next byte.
-    pub(crate) fn byte(&mut self, name: &'static str) -> Result<u8, Stop> {
-        self.byte_as(name, Form::Free)
+    pub(crate) fn byte(&mut self, name: &'static str) -> Option<u8> {
+        self.begin(name, u32::MAX);
+        let byte = self.cursor.byte().ok()?;
+        self.end()?;
+        Some(byte)
     }
 
-    /// The byte of a value type.
-    pub(crate) fn value_type(&mut self, name: &'static str) -> Result<u8, Stop> {
-        self.byte_as(name, Form::Byte("a value type (i32 is 7f, i64 is 7e)"))
-    }
-
-    /// A constant of so many bits, which is told as 0.
-    pub(crate) fn constant(&mut self, bits: u8) -> Result<u32, Stop> {
-        let offset = self.begin("its constant", Form::Free);
-        if bits == 32 {
-            let _ = self.cursor.i32_leb()?;
-        } else {
-            let _ = self.cursor.i64_leb()?;
+    /// So many bytes.
+    pub(crate) fn bytes(&mut self, count: u32, name: &'static str) -> Option<()> {
+        for _ in 0..count {
+            let _ = self.byte(name)?;
         }
-        self.end(offset)?;
-        Ok(0)
+        Some(())
+    }
+
+    /// A signed number.
+    pub(crate) fn constant(&mut self) -> Option<()> {
+        self.begin("its constant", u32::MAX);
+        let _ = self.cursor.i64_leb().ok()?;
+        self.end()
     }
 
     /// The name.
-    pub(crate) fn name(&mut self, name: &'static str) -> Result<&'a str, Stop> {
-        let offset = self.begin(name, Form::Free);
-        let text = self.cursor.name()?;
-        self.end(offset)?;
-        Ok(text)
+    pub(crate) fn name(&mut self, name: &'static str) -> Option<&'a str> {
+        self.begin(name, u32::MAX);
+        let text = self.cursor.name().ok()?;
+        self.end()?;
+        Some(text)
     }
 }

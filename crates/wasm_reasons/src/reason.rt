@@ -1,23 +1,16 @@
 //! The sentence of a refusal.
 
-use crate::malformed::look_at_bytes;
 use crate::place::Place;
-use crate::rules::look_at_rules;
-use crate::source::{Source, Stop};
+use crate::reader::Reader;
+use crate::search::end_of_fault;
+use crate::section::{CODE, FUNCTION};
+use ledger_table::meaning_of;
 use std::alloc::{AllocError, Global};
-use std::cell::Cell;
-use wasm_decode::decode_as;
+use wasm_decode::FaultKind;
+use wasm_decode::limits::MODULE_BYTES;
 use wasm_file::ModuleRefusal;
 use wasm_profile::Profile;
-
-/// The number of a refusal: 9, 101 to 113 or 201 to 210.
-fn number_of(refusal: &ModuleRefusal) -> u16 {
-    match refusal {
-        ModuleRefusal::Memory => 9,
-        ModuleRefusal::Malformed(kind, _) => u16::from(kind.number()),
-        ModuleRefusal::Invalid(fault) => fault.number(),
-    }
-}
+use wasm_validate::ValidateFault;
 
 /// Why the bytes give no valid module of a profile, where `valid_module` refused them so: one
 /// sentence without an end of line, with the place of the fault. It ends with the number of the
@@ -32,39 +25,87 @@ pub fn module_reason(
     bytes: &[u8],
     refusal: &ModuleRefusal,
 ) -> Result<String, AllocError> {
-    let words = Cell::new(String::new(alloc));
-    let source = Source {
-        alloc,
-        bytes,
-        words: &words,
-    };
-    let number = number_of(refusal);
-    let mut place = Place::NOWHERE;
-    match look(source, profile, refusal, &mut place) {
-        Err(Stop::Memory) => Err(AllocError),
-        Err(Stop::Found) => {
-            let place = source.named(place);
-            let words = words.replace(String::new(alloc));
-            format!(in alloc; "{place}{words} ({number})")
-        }
-        // No refusal of `valid_module` comes here.
-        Ok(()) => format!(in alloc; "it is refused ({number})"),
+    match refusal {
+        ModuleRefusal::Memory => Err(AllocError),
+        ModuleRefusal::Malformed(kind, offset) => malformed_reason(alloc, bytes, *kind, *offset),
+        ModuleRefusal::Invalid(fault) => invalid_reason(alloc, profile, bytes, *fault),
     }
 }
 
-// Looks for what a refusal says is wrong, and leaves the place of it.
-fn look(
-    source: Source<'_>,
+/// What is wrong at an offset of bytes that spell no module.
+fn malformed_reason(
+    alloc: Global,
+    bytes: &[u8],
+    kind: FaultKind,
+    offset: usize,
+) -> Result<String, AllocError> {
+    let mut reader = Reader::new(bytes);
+    if kind != FaultKind::EndedEarly {
+        reader.until = offset;
+    }
+    if bytes.len() <= MODULE_BYTES {
+        let _ = reader.module();
+    }
+    let (place, name) = (reader.place_at(bytes, offset), reader.part.name);
+    let (count, most) = (reader.part.number, reader.part.most);
+    let byte = bytes.get(offset).copied().unwrap_or(0);
+    let number = kind.number();
+    match kind {
+        FaultKind::EndedEarly => {
+            format!(in alloc; "{place}the bytes end inside {name} ({number})")
+        }
+        FaultKind::Magic | FaultKind::Version | FaultKind::SectionOrder | FaultKind::TypeByte => {
+            format!(in alloc; "{place}byte {byte:02x} stands where {name} is needed ({number})")
+        }
+        FaultKind::Limit if count > most => {
+            format!(in alloc;
+                "{place}{name} is {count}, where at most {most} is allowed ({number})"
+            )
+        }
+        _ => {
+            let meaning = meaning_of(u16::from(number));
+            format!(in alloc; "{place}{meaning} ({number})")
+        }
+    }
+}
+
+/// Which rule a module breaks, and where.
+fn invalid_reason(
+    alloc: Global,
     profile: Profile,
-    refusal: &ModuleRefusal,
-    place: &mut Place,
-) -> Result<(), Stop> {
-    match refusal {
-        ModuleRefusal::Memory => Err(Stop::Memory),
-        ModuleRefusal::Malformed(kind, offset) => look_at_bytes(source, *kind, *offset, place),
-        ModuleRefusal::Invalid(_) => match decode_as(source.alloc, source.bytes, profile) {
-            Ok(module) => look_at_rules(source, &module, place),
-            Err(_fault) => Err(Stop::Memory),
-        },
+    bytes: &[u8],
+    fault: ValidateFault,
+) -> Result<String, AllocError> {
+    let mut place = Place::NOWHERE;
+    if fault != ValidateFault::NoInvoke
+        && let Some(end) = end_of_fault(alloc, profile, bytes, fault)?
+    {
+        let mut reader = Reader::new(bytes);
+        reader.limit = end;
+        let _ = reader.module();
+        place = reader.place_at(bytes, end.saturating_sub(1));
+    }
+    let number = fault.number();
+    let meaning = meaning_of(number);
+    format!(in alloc; "{place}{meaning} ({number})")
+}
+
+impl<'a> Reader<'a> {
+    // Its place in a module, with an offset. A function has its index among all, and the name of
+    // its first export.
+    fn place_at(&self, bytes: &'a [u8], offset: usize) -> Place<'a> {
+        let mut place = self.place;
+        place.offset = Some(offset);
+        if let Some(item) = place.item
+            && matches!(place.section, Some(FUNCTION | CODE))
+        {
+            let function = self.imported.saturating_add(item);
+            let mut reader = Reader::new(bytes);
+            reader.sought = Some(function);
+            let _ = reader.module();
+            place.item = Some(function);
+            place.name = reader.exported;
+        }
+        place
     }
 }

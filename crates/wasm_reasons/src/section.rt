@@ -24,10 +24,10 @@ pub(crate) const CODE: u8 = 10;
 
 pub(crate) const DATA: u8 = 11;
 
-/// The standard's name of a section. None where no section has the id.
-pub(crate) fn section_name(id: u8) -> Option<&'static str> {
+/// The standard's name of a section. It is empty where no section has the id.
+pub(crate) fn section_name(id: u8) -> &'static str {
     let names = "custom type import function table memory global export start element code data";
-    names.split_whitespace().nth(id as usize)
+    names.split_whitespace().nth(id as usize).unwrap_or("")
 }
 
 /// What a section has items of.
@@ -36,7 +36,7 @@ pub(crate) fn item_noun(id: u8) -> &'static str {
         CODE => "function",
         ELEMENT => "element segment",
         DATA => "data segment",
-        _ => section_name(id).unwrap_or(""),
+        _ => section_name(id),
     }
 }
 
