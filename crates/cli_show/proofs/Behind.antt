@@ -1,5 +1,5 @@
 -- Lines behind lines.
-use Rattle.std.proofs.Common.{◌≡◌, List, [], ◌∷◌, ◌++◌, Option, Some, None, Result, Ok, Err, OnOk, sym, subst, append_assoc}
+use Rattle.std.proofs.Common.{◌≡◌, List, [], ◌∷◌, ◌++◌, Option, Some, None, Result, Ok, Err, OnOk, refl, sym, subst, append_assoc}
 use Rattle.std.proofs.lemmas.List.{append-nil}
 use Rattle.std.proofs.lemmas.List.Concat.{flat_map-append}
 use Rattle.std.specs.List.{flat_map}
@@ -8,7 +8,7 @@ use Rattle.serde_json.specs.Data.{Data}
 use Rattle.ledger_model.specs.Chain.{Bytes}
 use Rattle.json_chain.specs.JsonText.{IsJsonText}
 use Rattle.cli_lines.specs.Texts.{line}
-use Rattle.cli_show.specs.Lines.{AreTextsOf, HasLines}
+use Rattle.cli_show.specs.Lines.{AreLines, AreTextsOf, HasLines}
 
 pub appends_none : (b : Option Bytes) → Appends b b []
 appends_none None = tt
@@ -49,3 +49,15 @@ line_behind before after d text a b c longer h is k =
 pub on_ok : {A E : Type 0} (r : Result A E) (P Q : Type 0) → (P → Q) → OnOk r P → OnOk r Q
 on_ok (Ok x) P Q f h = f h
 on_ok (Err e) P Q f h = tt
+
+-- ---- lines of a text
+
+-- one line more
+pub lines_more : (ds : List Data) (d : Data) (text json after : Bytes) → AreLines ds text → IsJsonText d json → after ≡ text ++ line json →
+    AreLines (ds ++ d ∷ []) after
+lines_more ds d text json after lines is grown =
+    line_behind ds (ds ++ d ∷ []) d json (Some []) (Some text) (Some after) refl lines is grown
+
+-- lines that were printed as a text
+pub lines_held : (ds : List Data) (text : Bytes) (a b : Option Bytes) → AreLines ds text → Appends a b text → HasLines ds a b
+lines_held ds text a b lines h = (lines.0, lines.1, subst (λ (s : Bytes). Appends a b s) lines.2 h)

@@ -1,14 +1,15 @@
 pub mod Seen
 pub mod Answering
-pub mod Linked
 pub mod Replays
 pub mod Calls
 pub mod Cuts
-pub mod Amending
 pub mod Behind
 pub mod First
 pub mod WriteLines
 pub mod Read
 mod MarkLines
+mod PushedTexts
+mod ShownLines
+mod SoughtParts
 mod Stored
 mod Traces

@@ -14,14 +14,13 @@ use Rattle.ledger_setting.specs.declared.genesis.Genesis.{Genesis}
 use Rattle.store_replay.specs.Replay.{ReplaysFrom}
 use Rattle.store_replay.specs.declared.replaying.Replayed.{Replayed}
 use Rattle.cli_lines.specs.Texts.{line}
-use Rattle.cli_lines.specs.Told.{Answers, Begins, IsBrokenOff, IsMore, IsTextOf, PrintsPart, Tells, Told}
+use Rattle.cli_lines.specs.Told.{Answers, Begins, IsBrokenOff, IsTextOf, PrintsPart, Tells, Told}
 use Rattle.cli_lines.specs.declared.failure.Failure.{Failure}
 use Rattle.cli_show.specs.Answers.{UnlessFault, fault_of}
 use Rattle.cli_show.specs.Marks.{HasTexts, Marks, TellsMarks, chain_marks}
 use Rattle.cli_lines.proofs.Answering.{answers_by, begins_part}
-use Rattle.cli_lines.proofs.Printing.{part_first, part_same}
 use Rattle.cli_show.proofs.Behind.{appends_more, appends_none}
-use Rattle.cli_show.proofs.First.{fault_begins, texts_then}
+use Rattle.cli_show.proofs.First.{fault_begins}
 use Rattle.cli_show.proofs.Replays.{unless_fault}
 
 pub no_texts : (b : Option Bytes) → HasTexts [] b b
@@ -51,20 +50,6 @@ pub block_behind : (chain longer : Chain) (c : Committed) (a b d : Option Bytes)
     HasTexts (block_marks c.block) b d → HasTexts (chain_marks longer) a d
 block_behind chain longer c a b d is h k =
     subst (λ (ts : List Bytes). HasTexts ts a d) (sym (chain_longer chain longer c is)) (more_texts (chain_marks chain) (block_marks c.block) a b d h k)
-
--- the marks of the first blocks were printed, and a beginning of the next one's
-pub block_part : (chain longer rest : Chain) (c : Committed) (t u v : Told) → longer ≡ chain ++ c ∷ rest → IsMore t u → u.failed ≡ t.failed →
-    HasTexts (chain_marks chain) t.bytes u.bytes → PrintsPart u v (flat_map line (block_marks c.block)) → PrintsPart t v (flat_map line (chain_marks longer))
-block_part chain longer rest c t u v is more whole texts part =
-    let block = λ (x : Committed). x.block in
-    let marks = block_marks c.block in
-    let others = chain_marks rest in
-    let same : chain_marks longer ≡ chain_marks chain ++ (marks ++ others) =
-    ap (λ (cs : Chain). chain_marks cs) is ∙ ap (λ (bs : List Block). flat_map block_marks bs) (map-append block chain (c ∷ rest))
-    ∙ flat_map-append block_marks (map block chain) (map block (c ∷ rest)) in
-    subst (λ (ts : List Bytes). PrintsPart t v (flat_map line ts)) (sym same) (texts_then (chain_marks chain) (marks ++ others) t u v more whole texts
-    (part_same u v (flat_map line marks ++ flat_map line others) (flat_map line (marks ++ others)) (sym (flat_map-append line marks others))
-    (part_first u v (flat_map line marks) (flat_map line others) part)))
 
 marks_told : (chain : Chain) (t u : Told) (r : Result (Unit {0}) Failure) → Tells t u r → OnOk r (HasTexts (chain_marks chain) t.bytes u.bytes) →
     IfErr r IsBrokenOff → Answers (TellsMarks chain) t u r

@@ -1,10 +1,8 @@
 -- What commands come to that replay a store.
 use Rattle.std.proofs.Common.{◌≡◌, ◌<◌, ◌++◌, ℕ, Bool, true, false, [], ◌∷◌, Option, Some, None, IfSome, Result, Ok, Err, IfErr, OnErr, OnOk, length}
 use Rattle.std.proofs.Common.{inl, inr, refl, sym, ap, ◌∙◌, subst}
-use Rattle.wire.specs.Links.{AreLinked}
 use Rattle.endorsement_policy.specs.Endorsed.{Listed}
 use Rattle.ledger_model.specs.Chain.{Bytes, Chain}
-use Rattle.committer.specs.Fits.{blocks_of}
 use Rattle.block_store.specs.declared.end.End.{End}
 use Rattle.block_store.specs.declared.end.End.TheVariants.{Clean, Torn, Damaged, DeviceFailed}
 use Rattle.kept_state.specs.Keeping.{chain_of}
@@ -23,7 +21,6 @@ use Rattle.cli_show.specs.declared.showing.Part.{Part}
 use Rattle.cli_show.proofs.Answering.{lines_printed, untold}
 use Rattle.cli_show.proofs.Behind.{more_lines}
 use Rattle.cli_show.proofs.First.{begins_first, fault_begins}
-use Rattle.cli_show.proofs.Linked.{replays_linked}
 
 -- a fault is told with nothing printed, and where there is none the task is done
 pub unless_fault : (o : Option Failure) (Comes : Result (Unit {0}) Failure → Bytes → Type 0) (t u : Told) (r : Result (Unit {0}) Failure) →
@@ -43,14 +40,13 @@ part_told l part at chain t u (Err f) tells lines lost = inl lost
 pub state_told : (g : Genesis) (part : Part) (at : ℕ) (held : Option Bytes) (r : Replayed) (t u : Told) (answer : Result (Unit {0}) Failure) →
     ReplaysFrom (table_of g.rules.value) held r → Tells t u answer → IfSome (fault_of r) (λ failure. (answer ≡ Err failure) × (u ≡ t)) →
     OnOk answer (HasLines (part_json g.rules.value part at (chain_of r.chain)) t.bytes u.bytes) →
-    (fault_of r ≡ None → AreLinked [] (blocks_of (chain_of r.chain)) → IfErr answer IsBrokenOff) → Answers (States g part at held) t u answer
+    (fault_of r ≡ None → IfErr answer IsBrokenOff) → Answers (States g part at held) t u answer
 state_told g part at held r t u answer replay tells fault lines lost =
     let l = g.rules.value in
     let chain = (chain_of r.chain) in
-    let linked : AreLinked [] (blocks_of chain) = replays_linked (table_of l) [] replay.2.records chain r.differs r.refused replay.2.replays tt in
     answers_by (UnlessFault (fault_of r) (ShowsPart l part at chain)) (States g part at held) t u answer (λ text h. (r, replay, h))
     (unless_fault (fault_of r) (ShowsPart l part at chain) t u answer fault
-    (λ none. part_told l part at chain t u answer tells lines (lost none linked)))
+    (λ none. part_told l part at chain t u answer tells lines (lost none)))
 
 -- what `state` begins
 pub state_begun : (g : Genesis) (part : Part) (at : ℕ) (held : Option Bytes) (r : Replayed) (t u : Told) (answer : Result (Unit {0}) Failure) →

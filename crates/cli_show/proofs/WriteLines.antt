@@ -5,17 +5,15 @@ use Rattle.std.proofs.lemmas.List.{append-nil}
 use Rattle.std.proofs.lemmas.List.Concat.{flat_map-append}
 use Rattle.std.specs.Io.KnownBytes.{Appends}
 use Rattle.serde_json.specs.Data.{Data}
-use Rattle.ledger_model.specs.Chain.{Bytes, Envelope, Flag, Committed, Chain, Placed, placed_from, transactions_from, history}
+use Rattle.ledger_model.specs.Chain.{Bytes, Envelope, Flag, Committed, Chain, Placed, transactions_from, history}
 use Rattle.ledger_model.proofs.Histories.{history-push}
 use Rattle.ledger_model.specs.State.{write_of}
 use Rattle.wire.specs.Ids.{id_of}
 use Rattle.json_chain.specs.Entries.{placed_write_json}
 use Rattle.json_chain.specs.Writes.{IsLineOf, IsWriteLine, placed_at}
 use Rattle.cli_lines.specs.Texts.{line}
-use Rattle.cli_lines.specs.Told.{IsMore, Told}
-use Rattle.cli_show.specs.Lines.{HasLines, PrintsFirst, write_json, writes_json}
+use Rattle.cli_show.specs.Lines.{HasLines, write_json, writes_json}
 use Rattle.cli_show.proofs.Behind.{more_lines, no_lines, one_line}
-use Rattle.cli_show.proofs.First.{first_more, first_same, first_then, writes_behind}
 
 -- no line, where there was no write
 nothing : {A : Type 0} (json : A → Data) (w : Option A) (b : Option Bytes) → IsLineOf (option_map json w) None →
@@ -80,17 +78,3 @@ writes_block key chain longer x n a b c is number h k =
     let ts = transactions_from n 0 x.block.envelopes x.flags in
     subst (λ (ds : List Data). HasLines ds a c) (sym (writes_longer key chain longer x n is number))
     (more_lines (writes_json key (history chain)) (writes_json key ts) a b c h k)
-
--- the writes of the first blocks were printed, and some first ones of the next block's
-pub writes_first : (key : Bytes) (chain longer rest all : Chain) (x : Committed) (n : ℕ) (t u v : Told) → longer ≡ chain ++ x ∷ [] → all ≡ longer ++ rest →
-    n ≡ length chain + 1 → IsMore t u → u.failed ≡ t.failed → HasLines (writes_json key (history chain)) t.bytes u.bytes →
-    PrintsFirst (writes_json key (transactions_from n 0 x.block.envelopes x.flags)) u v → PrintsFirst (writes_json key (history all)) t v
-writes_first key chain longer rest all x n t u v is whole number more failed lines first =
-    let front = writes_json key (history chain) in
-    let here = writes_json key (transactions_from n 0 x.block.envelopes x.flags) in
-    let others = writes_json key (placed_from (length longer + 1) rest) in
-    let same : writes_json key (history all) ≡ (front ++ here) ++ others =
-    ap (λ (l : Chain). writes_json key (history l)) whole ∙ writes_behind key longer rest
-    ∙ ap (λ (ds : List Data). ds ++ others) (writes_longer key chain longer x n is number) in
-    first_same ((front ++ here) ++ others) (writes_json key (history all)) t v (sym same)
-    (first_more (front ++ here) others t v (first_then front here t u v more failed lines first))

@@ -5,8 +5,9 @@ use Rattle.serde_json.specs.Data.{Data}
 use Rattle.block_store.specs.declared.end.End.{End}
 use Rattle.block_store.specs.declared.end.End.TheVariants.{Clean, Torn, Damaged, DeviceFailed}
 use Rattle.committer.specs.declared.refusal.CommitRefusal.{CommitRefusal}
-use Rattle.ledger_model.specs.Chain.{Bytes, Chain, history}
+use Rattle.ledger_model.specs.Chain.{Bytes, Chain, Version, history}
 use Rattle.ledger_model.specs.State.{state}
+use Rattle.world_state.specs.Writing.{as_state}
 use Rattle.endorsement_policy.specs.Endorsed.{Listed}
 use Rattle.json_chain.specs.Memberships.{standing_behind}
 use Rattle.kept_state.specs.Keeping.{chain_of}
@@ -52,6 +53,12 @@ abbrev pub part_json : Listed → Part → ℕ → Chain → List Data
 part_json r part.Entries at chain = state_json at chain
 part_json r (part.Writes key) at chain = writes_json key.now (history (take at chain))
 part_json r part.Members at chain = members_json r at chain ∷ []
+
+-- what is known of the first so many blocks of a chain: the entries of the state after them, or the text of the writes in them
+abbrev pub IsSought : Part → ℕ → (entries : List (Bytes × (Bytes × Version))) → (text : Bytes) → Chain → Type 0
+IsSought part.Entries at es text chain = as_state es ≡ state (history (take at chain))
+IsSought (part.Writes key) at es text chain = AreLines (writes_json key.now (history (take at chain))) text
+IsSought part.Members at es text chain = as_state es ≡ state (history (take at chain))
 
 -- what a task comes to, unless it has a fault: then that is all
 abbrev pub UnlessFault : Option Failure → (Result (Unit {0}) Failure → Bytes → Type 0) → Result (Unit {0}) Failure → Bytes → Type 0

@@ -3,12 +3,14 @@ use Rattle.std.specs.Prelude.{◌≡◌, ◌++◌, ℕ, List, [], ◌∷◌, Opt
 use Rattle.std.specs.List.{flat_map}
 use Rattle.std.specs.Io.KnownBytes.{Appends}
 use Rattle.serde_json.specs.Data.{Data}
+use Rattle.fab_types.specs.declared.membership.Membership.{Membership}
 use Rattle.ledger_model.specs.Chain.{Bytes, Chain}
+use Rattle.endorsement_policy.specs.Endorsed.{Listed}
 use Rattle.ledger_setting.specs.declared.genesis.Genesis.{Genesis}
 pub use Rattle.json_chain.specs.Entries.{entries_json}
 use Rattle.json_chain.specs.Genesis.{genesis_json}
 use Rattle.json_chain.specs.JsonText.{IsJsonText}
-use Rattle.json_chain.specs.Standing.{blocks_json}
+use Rattle.json_chain.specs.Standing.{blocks_json, membership_behind}
 pub use Rattle.json_chain.specs.Writes.{write_json, writes_json}
 use Rattle.cli_lines.specs.Texts.{line}
 use Rattle.cli_lines.specs.Told.{PrintsPart, Told}
@@ -40,3 +42,8 @@ HasLines ds before after = (texts : List Bytes) × AreTextsOf ds texts × Append
 -- the genesis, and the blocks from one number to another, each by who stands before it
 abbrev pub chain_json : Genesis → (from to : ℕ) → Chain → List Data
 chain_json g from to chain = genesis_json g ∷ within from to (blocks_json g.rules.value None chain)
+
+-- what is known of the blocks of a chain: the text of those from one number to another, and the membership behind them
+abbrev pub IsShown : Listed → (from to : ℕ) → Option Membership → (text : Bytes) → Chain → Type 0
+IsShown r from to membership text chain =
+    AreLines (within from to (blocks_json r None chain)) text × (membership ≡ membership_behind None chain)

@@ -1,61 +1,45 @@
 //! The lines of a state.
 
-ghost use Rattle.std.specs.Prelude.{[], IfErr, OnErr, OnOk, map, take};
-ghost use Rattle.std.specs.FinMap.{entries};
+ghost use Rattle.std.specs.Prelude.{◌≡◌, IfErr, IfOk, OnErr, OnOk, map};
+ghost use Rattle.std.specs.List.Sorted.{IsStrictlySortedBy};
+ghost use Rattle.std.specs.Map.{keys_of};
 ghost use Rattle.std.specs.Map.Iter.{deref_pair};
 ghost use Rattle.cli_lines.specs.Told.{IsBrokenOff, Tells};
-ghost use Rattle.wire.specs.Links.{AreLinked};
-ghost use Rattle.committer.specs.Fits.{blocks_of};
-ghost use Rattle.ledger_model.specs.Chain.{history};
-ghost use Rattle.ledger_model.specs.State.{state};
+ghost use Rattle.ledger_model.specs.Views.{key_cmp};
 ghost use Rattle.cli_show.specs.Lines.{HasLines, PrintsFirst, entries_json};
 
-use crate::earlier::first_blocks;
 use cli_lines::{Failure, Printer, print_line};
 use fab_types::{Key, Value, Version};
 use json_chain::entry_line;
-use std::alloc::Global;
+use std::alloc::{AllocError, Global};
 use std::io::Write;
-use world_state::Snapshot;
+use world_state::StateMap;
 
-/// Prints each entry of the state after the first so many blocks of a chain, or after all where
-/// there are no more, in key order, as a line of JSON.
-pub(crate) fn print_state<W: Write>(
+/// References to the entries of a state, in key order. The error is of memory.
+fn all_entries(
     alloc: Global,
-    snapshot: &Snapshot,
-    at: usize,
-    out: &mut Printer<'_, W>,
-) -> Result<(), Failure>
-    ensures tells { Tells out.old out.new result }
-    ensures lost { AreLinked [] (blocks_of snapshot.now) → IfErr result IsBrokenOff }
-    ensures lines { OnOk result
-        (HasLines (entries_json (entries (state (history (take at snapshot.now)))))
-        out.old.bytes out.new.bytes) }
-    ensures first { OnErr result
-        (PrintsFirst (entries_json (entries (state (history (take at snapshot.now))))) out.old
-        out.new) }
+    state: &StateMap,
+) -> Result<Vec<(&Key, &(Value, Version))>, AllocError>
+    ensures all { IfOk result (λ v. map deref_pair v.items ≡ state.now.entries) }
+    ensures ordered { IsStrictlySortedBy key_cmp (keys_of state.now.entries) }
 {
-    if at >= snapshot.height() {
-        return print_state_of(alloc, snapshot, out);
-    }
-    let earlier = first_blocks(alloc, snapshot, at)?;
-    print_state_of(alloc, &earlier, out)
+    state.range(None, None).collect(alloc)
 }
 
-fn print_state_of<W: Write>(
+/// Prints each entry of a state, in key order, as a line of JSON.
+pub(crate) fn print_state<W: Write>(
     alloc: Global,
-    snapshot: &Snapshot,
+    state: &StateMap,
     out: &mut Printer<'_, W>,
 ) -> Result<(), Failure>
     ensures tells { Tells out.old out.new result }
     ensures lost { IfErr result IsBrokenOff }
+    ensures ordered { IsStrictlySortedBy key_cmp (keys_of state.now.entries) }
     ensures lines { OnOk result
-        (HasLines (entries_json (entries (state (history snapshot.now)))) out.old.bytes
-        out.new.bytes) }
-    ensures first { OnErr result
-        (PrintsFirst (entries_json (entries (state (history snapshot.now)))) out.old out.new) }
+        (HasLines (entries_json state.now.entries) out.old.bytes out.new.bytes) }
+    ensures first { OnErr result (PrintsFirst (entries_json state.now.entries) out.old out.new) }
 {
-    let entries = snapshot.entries(alloc)?;
+    let entries = all_entries(alloc, state)?;
     print_entries(alloc, &entries, out)
 }
 

@@ -2,17 +2,17 @@
 //! ([`simulate`], and [`trace`] step by step) or a store ([`audit`], [`show`], [`state`] and
 //! [`marks`]), whose chain is committed again. [`version`] tells which program it is.
 //!
-//! `audit` and `sim` hold none of its blocks (`sinks`).
+//! None of them holds a block. What `show`, `marks` and `state --key` print of the blocks is held
+//! as text until the store was read to its end (`texts`).
 //!
 //! `show` and `state` print that chain, and the state after it, as lines of JSON (`json_chain`).
-//! [`print_chain`] prints what the genesis sets and the blocks, and [`print_ending`] what is found
-//! of them. Contracts say which lines the writer has then (`specs/Lines.antt`).
+//! [`print_ending`] prints what is found of the blocks. Contracts say which lines the writer has
+//! then (`specs/Lines.antt`).
 #![tactic(auto)]
 
 mod auditing;
 mod chain;
 mod checking;
-mod earlier;
 mod entries;
 mod explaining;
 mod findings;
@@ -23,13 +23,14 @@ mod replaying;
 mod showing;
 mod simulation;
 mod sinks;
+mod sought;
 mod span;
+mod texts;
 mod tracing;
 mod versioning;
 mod writes;
 
 pub use auditing::audit;
-pub use chain::print_chain;
 pub use checking::{check, digest};
 pub use findings::print_ending;
 pub use laws::stores_hold_chains;

@@ -1,29 +1,49 @@
 //! The command `marks`.
 
-ghost use Rattle.std.specs.Prelude.{◌≡◌, None, IfErr, IfSome, OnErr, OnOk, map};
-ghost use Rattle.std.specs.List.{flat_map};
-ghost use Rattle.cli_lines.specs.Texts.{line};
-ghost use Rattle.cli_lines.specs.Told.{Answers, Begins, IsBrokenOff, IsTextOf, PrintsPart, Tells};
-ghost use Rattle.world_state.specs.Shared.{blocks_in};
+ghost use Rattle.std.specs.Prelude.{◌≡◌, None, Some, IfErr, IfSome, OnErr, OnOk, map, string_bytes};
+ghost use Rattle.std.specs.Io.KnownBytes.{Appends};
+ghost use Rattle.cli_lines.specs.Told.{Answers, Begins, IsBrokenOff, IsTextOf, PrintsNothing, Tells};
 ghost use Rattle.log_orderer.specs.Marks.{block_marks, envelope_mark};
 ghost use Rattle.cli_show.specs.Answers.{fault_of};
-ghost use Rattle.cli_show.specs.Marks.{HasTexts, Marks, chain_marks};
+ghost use Rattle.cli_show.specs.Marks.{HasTexts, Marks};
 
 use crate::explaining::explain_fault;
 use crate::replaying::replayed;
 use crate::showing::fault_of;
-use crate::sinks::Held;
-use cli_lines::{Failure, Files, Printer, print_line};
+use crate::texts::{print_text, push_line};
+use cli_lines::{Failure, Files, Printer};
 use endorsement_policy::Workers;
 use fab_types::{CommittedBlock, Envelope};
 use ledger_setting::Genesis;
-use std::alloc::Global;
+use std::alloc::{AllocError, Global};
 use std::io::Write;
-use std::sync::Arc;
 use std::thread::Threads;
-use store_replay::Replayed;
+use store_replay::{BlockSink, Replayed};
 use wire::encode_envelope;
-use world_state::Snapshot;
+
+/// The marks of the blocks that were taken, a line each.
+#[derive(Drop)]
+struct MarkText {
+    alloc: Global,
+    text: String,
+}
+
+impl BlockSink for MarkText {
+    ghost use Rattle.std.specs.Prelude.{◌≡◌, string_bytes};
+    ghost use Rattle.std.specs.List.{flat_map};
+    ghost use Rattle.cli_lines.specs.Texts.{line};
+    ghost use Rattle.cli_show.specs.Marks.{chain_marks};
+
+    ghost Context = { Unit {0} };
+
+    ghost context = { λ _. tt };
+
+    ghost Took = { λ m chain. string_bytes m.text ≡ flat_map line (chain_marks chain) };
+
+    fn take(&mut self, committed: CommittedBlock) -> Result<(), AllocError> {
+        push_block(self.alloc, &committed, &mut self.text)
+    }
+}
 
 /// Prints the marks of a store's chain, a line each: each block's envelopes in hex, in their order,
 /// and `tick`. A replica of the orderer that has read nothing cuts the same blocks of them.
@@ -45,86 +65,59 @@ pub fn marks<T: Threads + Sync, F: Files, W: Write>(
         out.new result }
     ensures kept { F.bytes files.new ≡ F.bytes files.old }
 {
-    let held = Held::new(alloc);
-    let (replayed, held) = replayed(workers, alloc, files, genesis, store, held)?;
+    let text = String::new(alloc);
+    let marks = MarkText { alloc, text };
+    let (replayed, marks) = replayed(workers, alloc, files, genesis, store, marks)?;
     explain_fault(alloc, files, store, &replayed);
-    print_marks(alloc, &replayed, &held.snapshot, out)
+    print_marks(&replayed, &marks.text, out)
 }
 
 /// Prints the marks of a chain that was committed again.
-pub(crate) fn print_marks<W: Write>(
-    alloc: Global,
+fn print_marks<W: Write>(
     replayed: &Replayed,
-    snapshot: &Snapshot,
+    text: &String,
     out: &mut Printer<'_, W>,
 ) -> Result<(), Failure>
     ensures tells { Tells out.old out.new result }
     ensures lost { fault_of replayed.now ≡ None → IfErr result IsBrokenOff }
     ensures refused { IfSome (fault_of replayed.now) (λ failure.
         (result ≡ Err failure) × (out.new ≡ out.old)) }
-    ensures marks { OnOk result
-        (HasTexts (chain_marks snapshot.now) out.old.bytes out.new.bytes) }
-    ensures part { OnErr result
-        (PrintsPart out.old out.new (flat_map line (chain_marks snapshot.now))) }
+    ensures text { OnOk result (Appends out.old.bytes out.new.bytes (string_bytes text.now)) }
+    ensures nothing { OnErr result (PrintsNothing out.old out.new) }
 {
     if let Some(failure) = fault_of(replayed) {
         return Err(failure);
     }
-    print_blocks(alloc, snapshot.blocks(), out)
+    print_text(text, out)
 }
 
-/// Prints the marks of blocks, one after another.
-fn print_blocks<W: Write>(
-    alloc: Global,
-    blocks: &[Arc<CommittedBlock>],
-    out: &mut Printer<'_, W>,
-) -> Result<(), Failure>
-    ensures tells { Tells out.old out.new result }
-    ensures lost { IfErr result IsBrokenOff }
-    ensures marks { OnOk result
-        (HasTexts (chain_marks (blocks_in blocks.now)) out.old.bytes out.new.bytes) }
-    ensures part { OnErr result
-        (PrintsPart out.old out.new (flat_map line (chain_marks (blocks_in blocks.now)))) }
-{
-    for committed in blocks {
-        print_block(alloc, committed, out)?;
-    }
-    Ok(())
-}
-
-/// Prints the marks of a block: its envelopes in hex, and `tick`.
-fn print_block<W: Write>(
+/// Puts the marks of a block behind a text: its envelopes in hex, and `tick`.
+fn push_block(
     alloc: Global,
     committed: &CommittedBlock,
-    out: &mut Printer<'_, W>,
-) -> Result<(), Failure>
-    ensures tells { Tells out.old out.new result }
-    ensures lost { IfErr result IsBrokenOff }
-    ensures marks { OnOk result
-        (HasTexts (block_marks committed.now.block) out.old.bytes out.new.bytes) }
-    ensures part { OnErr result
-        (PrintsPart out.old out.new (flat_map line (block_marks committed.now.block))) }
+    text: &mut String,
+) -> Result<(), AllocError>
+    ensures { OnOk result
+        (HasTexts (block_marks committed.now.block) (Some (string_bytes text.old))
+        (Some (string_bytes text.new))) }
 {
-    print_envelopes(alloc, committed.block().envelopes.as_slice(), out)?;
-    writeln!(out, "tick")
+    push_envelopes(alloc, committed.block().envelopes.as_slice(), text)?;
+    text.push_str("tick\n")
 }
 
-/// Prints envelopes in hex.
-fn print_envelopes<W: Write>(
+/// Puts envelopes in hex behind a text.
+fn push_envelopes(
     alloc: Global,
     envelopes: &[Envelope],
-    out: &mut Printer<'_, W>,
-) -> Result<(), Failure>
-    ensures tells { Tells out.old out.new result }
-    ensures lost { IfErr result IsBrokenOff }
-    ensures marks { OnOk result
-        (HasTexts (map envelope_mark envelopes.now) out.old.bytes out.new.bytes) }
-    ensures part { OnErr result
-        (PrintsPart out.old out.new (flat_map line (map envelope_mark envelopes.now))) }
+    text: &mut String,
+) -> Result<(), AllocError>
+    ensures { OnOk result
+        (HasTexts (map envelope_mark envelopes.now) (Some (string_bytes text.old))
+        (Some (string_bytes text.new))) }
 {
     for envelope in envelopes {
-        let text = hex::encode(alloc, &encode_envelope(alloc, envelope)?)?;
-        print_line(&text, out)?;
+        let mark = hex::encode(alloc, &encode_envelope(alloc, envelope)?)?;
+        push_line(text, &mark)?;
     }
     Ok(())
 }

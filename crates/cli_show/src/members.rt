@@ -1,56 +1,52 @@
 //! The line of who stands.
 
-ghost use Rattle.std.specs.Prelude.{[], ◌∷◌, IfErr, OnErr, OnOk};
-ghost use Rattle.wire.specs.Links.{AreLinked};
-ghost use Rattle.committer.specs.Fits.{blocks_of};
+ghost use Rattle.std.specs.Prelude.{[], ◌∷◌, IfErr, IfOk, OnErr, OnOk, string_bytes};
+ghost use Rattle.std.specs.FinMap.{get};
+ghost use Rattle.fab_types.specs.Memberships.{membership_key};
+ghost use Rattle.endorsement_policy.specs.Judge.{plain_in};
+ghost use Rattle.endorsement_policy.specs.Membership.{usable_membership};
 ghost use Rattle.cli_lines.specs.Told.{IsBrokenOff, PrintsNothing, Tells};
-ghost use Rattle.json_chain.specs.Memberships.{standing_behind};
-ghost use Rattle.cli_show.specs.Answers.{members_json};
+ghost use Rattle.json_chain.specs.JsonText.{IsJsonText};
+ghost use Rattle.json_chain.specs.Memberships.{standing_json};
 ghost use Rattle.cli_show.specs.Lines.{HasLines};
 
-use crate::earlier::first_blocks;
 use cli_lines::{Failure, Printer, print_line};
 use endorsement_policy::Rules;
-use json_chain::standing_line;
-use std::alloc::Global;
+use json_chain::{line_of, standing_of_state};
+use std::alloc::{AllocError, Global};
 use std::io::Write;
-use world_state::Snapshot;
+use world_state::StateMap;
 
-/// Prints what stands after the first so many blocks of a chain, or after all where there are no
-/// more, as a line of JSON: the membership in the state, where one stands there that can be used,
-/// else what the genesis says.
+/// Prints what stands in a state, as a line of JSON: the membership there, where one stands that can
+/// be used, else what the genesis says.
 pub(crate) fn print_members<W: Write>(
     alloc: Global,
     rules: &Rules,
-    snapshot: &Snapshot,
-    at: usize,
-    out: &mut Printer<'_, W>,
-) -> Result<(), Failure>
-    ensures tells { Tells out.old out.new result }
-    ensures lost { AreLinked [] (blocks_of snapshot.now) → IfErr result IsBrokenOff }
-    ensures line { OnOk result
-        (HasLines (members_json rules.now at snapshot.now ∷ []) out.old.bytes out.new.bytes) }
-    ensures nothing { OnErr result (PrintsNothing out.old out.new) }
-{
-    if at >= snapshot.height() {
-        return print_members_of(alloc, rules, snapshot, out);
-    }
-    let earlier = first_blocks(alloc, snapshot, at)?;
-    print_members_of(alloc, rules, &earlier, out)
-}
-
-fn print_members_of<W: Write>(
-    alloc: Global,
-    rules: &Rules,
-    snapshot: &Snapshot,
+    state: &StateMap,
     out: &mut Printer<'_, W>,
 ) -> Result<(), Failure>
     ensures tells { Tells out.old out.new result }
     ensures lost { IfErr result IsBrokenOff }
     ensures line { OnOk result
-        (HasLines (standing_behind rules.now snapshot.now ∷ []) out.old.bytes out.new.bytes) }
+        (HasLines
+        (standing_json rules.now
+        (usable_membership rules.now.installed.orgs
+        (get (plain_in state.now.entries) membership_key)) ∷ [])
+        out.old.bytes out.new.bytes) }
     ensures nothing { OnErr result (PrintsNothing out.old out.new) }
 {
-    let line = standing_line(alloc, rules, snapshot)?;
+    let line = standing_line(alloc, rules, state)?;
     print_line(&line, out)
+}
+
+/// That line. The error is of memory.
+fn standing_line(alloc: Global, rules: &Rules, state: &StateMap) -> Result<String, AllocError>
+    ensures { IfOk result
+        (λ s. IsJsonText
+        (standing_json rules.now
+        (usable_membership rules.now.installed.orgs
+        (get (plain_in state.now.entries) membership_key)))
+        (string_bytes s)) }
+{
+    line_of(alloc, &standing_of_state(alloc, rules, state)?)
 }

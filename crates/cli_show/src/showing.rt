@@ -1,23 +1,21 @@
 //! The commands `show` and `state`.
 
-ghost use Rattle.std.specs.Prelude.{◌≡◌, [], None, IfErr, IfSome, OnErr, OnOk};
-ghost use Rattle.wire.specs.Links.{AreLinked};
-ghost use Rattle.committer.specs.Fits.{blocks_of};
+ghost use Rattle.std.specs.Prelude.{◌≡◌, None, IfErr, IfSome, OnErr, OnOk, string_bytes};
 ghost use Rattle.cli_lines.specs.Told.{Answers, Begins, IsBrokenOff, Tells};
-ghost use Rattle.cli_show.specs.Answers.{StateBegins, States, block_fault, end_fault, fault_of, part_json};
+ghost use Rattle.cli_show.specs.Answers.{IsSought, StateBegins, States, block_fault, end_fault, fault_of, part_json};
 ghost use Rattle.kept_state.specs.Keeping.{IsKept, chain_of};
 ghost use Rattle.cli_show.specs.Findings.{Finds, ShowBegins, Shows, ShowsReplay};
-ghost use Rattle.cli_show.specs.Lines.{AreFirstLines, HasLines, PrintsFirst, chain_json};
+ghost use Rattle.cli_show.specs.Lines.{AreFirstLines, HasLines, IsShown, PrintsFirst, chain_json};
 
-use crate::chain::print_chain;
+use crate::chain::{ShownChain, print_chain};
 use crate::entries::print_state;
 use crate::explaining::{explain_asked, explain_shown};
 use crate::findings::{ends_with, finding_of, print_ending};
 use crate::members::print_members;
 use crate::replaying::replayed;
-use crate::sinks::{Held, HeldRerun, Rerun};
+use crate::sought::Sought;
 use crate::span::Span;
-use crate::writes::print_writes;
+use crate::texts::print_text;
 use block_store::End;
 use cli_lines::{Failure, Files, Printer};
 use endorsement_policy::{Rules, Workers};
@@ -28,7 +26,6 @@ use std::alloc::Global;
 use std::io::Write;
 use std::thread::Threads;
 use store_replay::Replayed;
-use world_state::Snapshot;
 
 /// What `show` is asked for: these blocks of the store in the file of a name.
 #[derive(Clone, Copy)]
@@ -77,16 +74,11 @@ pub fn show<T: Threads + Sync, F: Files, W: Write>(
         (F.bytes files.old shown.now.store.now)) out.old out.new result }
     ensures kept { F.bytes files.new ≡ F.bytes files.old }
 {
-    let held = Held::new(alloc);
-    let rerun = Rerun::new(alloc, &genesis.book);
-    let sink = HeldRerun { held, rerun };
-    let (replayed, sink) = replayed(workers, alloc, files, genesis, shown.store, sink)?;
-    let finding = finding_of(&replayed, &sink.rerun);
-    explain_shown(alloc, files, shown, &replayed, sink.rerun.missing);
-    let snapshot = &sink.held.snapshot;
-    print_shown(
-        alloc, genesis, &replayed, snapshot, finding, shown.span, out,
-    )
+    let chain = ShownChain::new(alloc, genesis, shown.span);
+    let (replayed, chain) = replayed(workers, alloc, files, genesis, shown.store, chain)?;
+    let finding = finding_of(&replayed, &chain.rerun);
+    explain_shown(alloc, files, shown, &replayed, chain.rerun.missing);
+    print_shown(alloc, genesis, &replayed, &chain, finding, out)
 }
 
 /// Prints the chain of a store, and what is found of it.
@@ -94,22 +86,23 @@ fn print_shown<W: Write>(
     alloc: Global,
     genesis: &Genesis,
     replayed: &Replayed,
-    snapshot: &Snapshot,
+    chain: &ShownChain<'_>,
     finding: Finding,
-    span: Span,
     out: &mut Printer<'_, W>,
 ) -> Result<(), Failure>
     requires kept { IsKept replayed.now.chain }
-    requires same { snapshot.now ≡ chain_of replayed.now.chain }
+    requires shown { IsShown genesis.now.rules.value chain.now.span.from chain.now.span.to
+        chain.now.membership (string_bytes chain.now.lines) (chain_of replayed.now.chain) }
     requires found { Finds genesis.now replayed.now finding }
     ensures tells { Tells out.old out.new result }
-    ensures answers { Answers (ShowsReplay genesis.now span.from span.to replayed.now) out.old
+    ensures answers { Answers
+        (ShowsReplay genesis.now chain.now.span.from chain.now.span.to replayed.now) out.old
         out.new result }
     ensures begins { Begins
-        (AreFirstLines (chain_json genesis.now span.from span.to snapshot.now)) out.old
-        out.new result }
+        (AreFirstLines (chain_json genesis.now chain.now.span.from chain.now.span.to
+        (chain_of replayed.now.chain))) out.old out.new result }
 {
-    print_chain(alloc, genesis, snapshot, span, out)?;
+    print_chain(alloc, genesis, &chain.lines, out)?;
     let is_good = print_ending(alloc, replayed, finding, out)?;
     ends_with(is_good, None)
 }
@@ -136,41 +129,40 @@ pub fn state<T: Threads + Sync, F: Files, W: Write>(
         (F.bytes files.old asked.now.store.now)) out.old out.new result }
     ensures kept { F.bytes files.new ≡ F.bytes files.old }
 {
-    let held = Held::new(alloc);
-    let (replayed, held) = replayed(workers, alloc, files, genesis, asked.store, held)?;
+    let sought = Sought::new(alloc, asked);
+    let (replayed, sought) = replayed(workers, alloc, files, genesis, asked.store, sought)?;
     explain_asked(alloc, files, asked, &replayed);
-    print_asked(alloc, &genesis.rules, &replayed, &held.snapshot, asked, out)
+    print_asked(alloc, &genesis.rules, &replayed, &sought, out)
 }
 
 /// Prints what is asked for of the state after a store, as `state` does.
-pub(crate) fn print_asked<W: Write>(
+fn print_asked<W: Write>(
     alloc: Global,
     rules: &Rules,
     replayed: &Replayed,
-    snapshot: &Snapshot,
-    asked: &Asked<'_>,
+    sought: &Sought<'_>,
     out: &mut Printer<'_, W>,
 ) -> Result<(), Failure>
+    requires { IsSought sought.now.asked.part sought.now.asked.at sought.now.state.entries
+        (string_bytes sought.now.writes) (chain_of replayed.now.chain) }
     ensures tells { Tells out.old out.new result }
     ensures refused { IfSome (fault_of replayed.now) (λ failure.
         (result ≡ Err failure) × (out.new ≡ out.old)) }
     ensures lines { OnOk result
-        (HasLines (part_json rules.now asked.now.part asked.now.at snapshot.now) out.old.bytes
-        out.new.bytes) }
-    // The blocks of a store that is whole are linked.
-    ensures lost { fault_of replayed.now ≡ None
-        → AreLinked [] (blocks_of snapshot.now) → IfErr result IsBrokenOff }
+        (HasLines (part_json rules.now sought.now.asked.part sought.now.asked.at
+        (chain_of replayed.now.chain)) out.old.bytes out.new.bytes) }
+    ensures lost { fault_of replayed.now ≡ None → IfErr result IsBrokenOff }
     ensures first { OnErr result
-        (PrintsFirst (part_json rules.now asked.now.part asked.now.at snapshot.now) out.old
-        out.new) }
+        (PrintsFirst (part_json rules.now sought.now.asked.part sought.now.asked.at
+        (chain_of replayed.now.chain)) out.old out.new) }
 {
     if let Some(failure) = fault_of(replayed) {
         return Err(failure);
     }
-    match asked.part {
-        Part::Entries => print_state(alloc, snapshot, asked.at, out),
-        Part::Writes(key) => print_writes(alloc, snapshot, key, asked.at, out),
-        Part::Members => print_members(alloc, rules, snapshot, asked.at, out),
+    match sought.asked.part {
+        Part::Entries => print_state(alloc, &sought.state, out),
+        Part::Writes(_) => print_text(&sought.writes, out),
+        Part::Members => print_members(alloc, rules, &sought.state, out),
     }
 }
 

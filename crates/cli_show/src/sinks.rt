@@ -1,4 +1,4 @@
-//! Who takes the blocks of a store that is shown.
+//! What is known of the blocks of a store as they are taken.
 
 ghost use Rattle.std.specs.Prelude.{◌≡◌, [], ◌∷◌, ◌+◌, ◌++◌, OnOk, length};
 ghost use Rattle.ledger_model.specs.Chain.{Chain};
@@ -11,9 +11,7 @@ use fab_types::CommittedBlock;
 use fabric_core::Auditing;
 use simulator::Book;
 use std::alloc::{AllocError, Global};
-use std::sync::Arc;
 use store_replay::BlockSink;
-use world_state::Snapshot;
 
 /// What is known of blocks of which none is held: what their audit says, and the number of the first
 /// that upgrades to a module that is not at hand.
@@ -55,7 +53,7 @@ impl<'a> Rerun<'a> {
     }
 
     /// Sees the next block. The error is of memory.
-    fn see(&mut self, committed: &CommittedBlock) -> Result<(), AllocError>
+    pub(crate) fn see(&mut self, committed: &CommittedBlock) -> Result<(), AllocError>
         requires { (chain : Chain)
             × IsRerun self.old.book.now self.old.audit self.old.missing chain
             × (committed.now.block.header.number ≡ length chain + 1) }
@@ -83,64 +81,5 @@ impl BlockSink for Rerun<'_> {
 
     fn take(&mut self, committed: CommittedBlock) -> Result<(), AllocError> {
         self.see(&committed)
-    }
-}
-
-/// Blocks that are held.
-#[derive(Drop)]
-pub(crate) struct Held {
-    alloc: Global,
-    pub(crate) snapshot: Snapshot,
-}
-
-impl Held {
-    /// No blocks. It takes no memory.
-    pub(crate) fn new(alloc: Global) -> Held
-        ensures { result.snapshot ≡ [] }
-    {
-        Held {
-            alloc,
-            snapshot: Snapshot::empty(alloc),
-        }
-    }
-}
-
-impl BlockSink for Held {
-    ghost use Rattle.std.specs.Prelude.{◌≡◌};
-
-    ghost Context = { Unit {0} };
-
-    ghost context = { λ _. tt };
-
-    ghost Took = { λ h chain. h.snapshot ≡ chain };
-
-    fn take(&mut self, committed: CommittedBlock) -> Result<(), AllocError> {
-        let shared = Arc::new(self.alloc, committed)?;
-        self.snapshot.extend_shared(self.alloc, shared)
-    }
-}
-
-/// Blocks that are held, and what is known of them.
-#[derive(Drop)]
-pub(crate) struct HeldRerun<'a> {
-    pub(crate) held: Held,
-    pub(crate) rerun: Rerun<'a>,
-}
-
-impl BlockSink for HeldRerun<'_> {
-    ghost use Rattle.std.specs.Prelude.{◌≡◌};
-    ghost use Rattle.chaincode_book.specs.Books.{Book};
-    ghost use Rattle.cli_show.specs.Reruns.{IsRerun};
-
-    ghost Context = { Book };
-
-    ghost context = { λ h. h.rerun.book.now };
-
-    ghost Took = { λ h chain. (h.held.snapshot ≡ chain)
-        × IsRerun h.rerun.book.now h.rerun.audit h.rerun.missing chain };
-
-    fn take(&mut self, committed: CommittedBlock) -> Result<(), AllocError> {
-        self.rerun.see(&committed)?;
-        self.held.take(committed)
     }
 }

@@ -1,11 +1,13 @@
-use Rattle.std.proofs.Common.{OnErr, OnOk, inl, subst, ◌∙◌}
+use Rattle.std.proofs.Common.{OnOk, inl, subst, ◌∙◌}
+use Rattle.std.specs.Io.KnownBytes.{Appends}
 use Rattle.std.specs.List.{flat_map}
-use Rattle.ledger_model.specs.Chain.{Chain}
+use Rattle.kept_state.specs.Keeping.{chain_of}
+use Rattle.ledger_model.specs.Chain.{Bytes}
 use Rattle.cli_lines.specs.Texts.{line}
-use Rattle.cli_lines.specs.Told.{PrintsPart}
-use Rattle.cli_show.specs.Marks.{HasTexts, chain_marks}
+use Rattle.cli_lines.specs.Told.{PrintsNothing, PrintsPart}
+use Rattle.cli_show.specs.Marks.{chain_marks}
 use Rattle.std.proofs.lemmas.Result.{err_from_is_err_and}
-use Rattle.cli_lines.proofs.Printing.{nothing_same}
+use Rattle.cli_lines.proofs.Printing.{nothing_same, part_none, printed_on_err}
 use Rattle.cli_lines.proofs.Silence.{no_less, tells_by}
 use Rattle.cli_show.proofs.MarkLines.{store_begun, store_told}
 use Rattle.cli_show.proofs.marking.marks.Goals as goal
@@ -23,19 +25,20 @@ returns-in_err-replayed g c =
 pub returns-clause-answers : goal.returns-clause-answers
 returns-clause-answers g c =
     let told = c.print_marks.ensures in
-    let took = c.in_ok-replayed.ensures.took in
     store_told c.args.genesis.now (g.F.Files.bytes c.args.files.now c.args.store.now) c.in_ok-replayed.replayed c.args.out.now c.print_marks.new.out
     c.print_marks.result c.in_ok-replayed.ensures.replayed told.tells told.refused
-    (subst (λ (chain : Chain). OnOk c.print_marks.result (HasTexts (chain_marks chain) c.args.out.now.bytes c.print_marks.new.out.bytes)) took told.marks) told.lost
+    (subst (λ (text : Bytes). OnOk c.print_marks.result (Appends c.args.out.now.bytes c.print_marks.new.out.bytes text)) c.in_ok-replayed.ensures.took
+    told.text) told.lost
 
 pub returns-clause-begins : goal.returns-clause-begins
 returns-clause-begins g c =
     let told = c.print_marks.ensures in
-    let took = c.in_ok-replayed.ensures.took in
-    store_begun c.args.genesis.now (g.F.Files.bytes c.args.files.now c.args.store.now) c.in_ok-replayed.replayed c.args.out.now c.print_marks.new.out
-    c.print_marks.result c.in_ok-replayed.ensures.replayed told.refused
-    (subst (λ (chain : Chain). OnErr c.print_marks.result (PrintsPart c.args.out.now c.print_marks.new.out (flat_map line (chain_marks chain))))
-    took told.part)
+    let t = c.args.out.now in
+    let u = c.print_marks.new.out in
+    let marks = flat_map line (chain_marks (chain_of c.in_ok-replayed.replayed.chain)) in
+    store_begun c.args.genesis.now (g.F.Files.bytes c.args.files.now c.args.store.now) c.in_ok-replayed.replayed t u c.print_marks.result
+    c.in_ok-replayed.ensures.replayed told.refused
+    (printed_on_err c.print_marks.result (PrintsNothing t u) (PrintsPart t u marks) (λ none. part_none t u marks none) told.nothing)
 
 pub returns-clause-kept : goal.returns-clause-kept
 returns-clause-kept g c = c.explain_fault.ensures.kept ∙ c.in_ok-replayed.ensures.kept

@@ -1,15 +1,12 @@
-use Rattle.std.proofs.Common.{◌≡◌, [], None, IfErr, OnErr, OnOk, inl, subst, ◌∙◌}
+use Rattle.std.proofs.Common.{OnErr, OnOk, inl, subst, ◌∙◌}
 use Rattle.std.proofs.lemmas.Result.{err_from_is_err_and}
 use Rattle.cli_lines.proofs.Printing.{nothing_same}
 use Rattle.cli_lines.proofs.Silence.{no_less, tells_by}
 use Rattle.endorsement_policy.specs.Endorsed.{Listed}
-use Rattle.wire.specs.Links.{AreLinked}
-use Rattle.committer.specs.Fits.{blocks_of}
-use Rattle.ledger_model.specs.Chain.{Chain}
 use Rattle.kept_state.specs.Keeping.{chain_of}
-use Rattle.cli_lines.specs.Told.{IsBrokenOff}
-use Rattle.cli_show.specs.Answers.{fault_of, part_json}
+use Rattle.cli_show.specs.Answers.{part_json}
 use Rattle.cli_show.specs.Lines.{HasLines, PrintsFirst}
+use Rattle.cli_show.specs.declared.showing.Asked.{Asked}
 use Rattle.cli_show.proofs.Replays.{state_begun, state_told}
 use Rattle.cli_show.proofs.showing.state.Goals as goal
 
@@ -28,26 +25,27 @@ returns-clause-answers g c =
     let asked = c.args.asked.now in
     let r = c.in_ok-replayed.replayed in
     let last = c.print_asked in
-    let took = c.in_ok-replayed.ensures.took in
+    let t = c.args.out.now in
     let chain = chain_of r.chain in
-    let here = subst (λ (k : Chain). OnOk last.result (HasLines (part_json c.deref.result.now asked.part asked.at k) c.args.out.now.bytes last.new.out.bytes))
-    took last.ensures.lines in
-    let lines = subst (λ (l : Listed). OnOk last.result (HasLines (part_json l asked.part asked.at chain) c.args.out.now.bytes last.new.out.bytes))
-    c.deref.ensures here in
-    let lost = subst (λ (k : Chain). fault_of r ≡ None → AreLinked [] (blocks_of k) → IfErr last.result IsBrokenOff) took last.ensures.lost in
-    state_told c.args.genesis.now asked.part asked.at (g.F.Files.bytes c.args.files.now asked.store.now) r c.args.out.now last.new.out last.result
-    c.in_ok-replayed.ensures.replayed last.ensures.tells last.ensures.refused lines lost
+    let same = c.in_ok-replayed.ensures.context ∙ c.new-sought.ensures.asked in
+    let here = subst (λ (a : Asked). OnOk last.result (HasLines (part_json c.deref.result.now a.part a.at chain) t.bytes last.new.out.bytes)) same
+    last.ensures.lines in
+    let lines = subst (λ (l : Listed). OnOk last.result (HasLines (part_json l asked.part asked.at chain) t.bytes last.new.out.bytes)) c.deref.ensures here in
+    state_told c.args.genesis.now asked.part asked.at (g.F.Files.bytes c.args.files.now asked.store.now) r t last.new.out last.result
+    c.in_ok-replayed.ensures.replayed last.ensures.tells last.ensures.refused lines last.ensures.lost
 
 pub returns-clause-begins : goal.returns-clause-begins
 returns-clause-begins g c =
     let asked = c.args.asked.now in
     let r = c.in_ok-replayed.replayed in
     let last = c.print_asked in
-    let here = subst (λ (k : Chain). OnErr last.result (PrintsFirst (part_json c.deref.result.now asked.part asked.at k) c.args.out.now last.new.out))
-    c.in_ok-replayed.ensures.took last.ensures.first in
-    let first = subst (λ (l : Listed). OnErr last.result (PrintsFirst (part_json l asked.part asked.at (chain_of r.chain)) c.args.out.now last.new.out))
-    c.deref.ensures here in
-    state_begun c.args.genesis.now asked.part asked.at (g.F.Files.bytes c.args.files.now asked.store.now) r c.args.out.now last.new.out last.result
+    let t = c.args.out.now in
+    let chain = chain_of r.chain in
+    let same = c.in_ok-replayed.ensures.context ∙ c.new-sought.ensures.asked in
+    let here = subst (λ (a : Asked). OnErr last.result (PrintsFirst (part_json c.deref.result.now a.part a.at chain) t last.new.out)) same
+    last.ensures.first in
+    let first = subst (λ (l : Listed). OnErr last.result (PrintsFirst (part_json l asked.part asked.at chain) t last.new.out)) c.deref.ensures here in
+    state_begun c.args.genesis.now asked.part asked.at (g.F.Files.bytes c.args.files.now asked.store.now) r t last.new.out last.result
     c.in_ok-replayed.ensures.replayed last.ensures.refused first
 
 pub returns-clause-kept : goal.returns-clause-kept
