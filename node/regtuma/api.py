@@ -99,6 +99,8 @@ class Api:
             wrong.append("envelopes wait, and no tick comes: the log may take none")
         if (unled := now - chain.led) > UNLED:
             wrong.append(f"the log could take no entry for {unled:.0f} s: {chain.log.why}")
+        if chain.log.unread and (silent := now - chain.log.unread[0]) > UNLED:
+            wrong.append(f"the log could not be read for {silent:.0f} s: {chain.log.unread[1]}")
         if (unread := chain.given - chain.read) > BEHIND:
             wrong.append(f"{unread} lines of the log are unread")
         if chain.peer.lost:

@@ -55,8 +55,9 @@ class Entry:
 class Log(Protocol):
     """Appends to a log, and reads it."""
 
-    # Why no entry could be put when that was asked last.
+    # Why no entry could be put when that was asked last. Since when nothing of the log could be read, and why, if so.
     why: str
+    unread: tuple[float, str] | None
 
     async def append(self, name: str, marks: list[str], patience: float = PATIENCE) -> bool:
         """Puts an entry where none has this name, and tells whether this request made it. A name must never be used for two

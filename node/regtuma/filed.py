@@ -43,6 +43,7 @@ class Reading:
 class FileLog:
     def __init__(self, file: str):
         self.file, self.why = file, "it was not asked"
+        self.unread: tuple[float, str] | None = None
         # The names that were read in order to append, and how far.
         self.names: set[bytes] = set()
         self.reading = Reading(file)

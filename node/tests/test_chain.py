@@ -55,7 +55,7 @@ class FakeLog:
     """Takes entries, or fails."""
 
     def __init__(self, failure: str = ""):
-        self.failure, self.why = failure, "no leader"
+        self.failure, self.why, self.unread = failure, "no leader", None
         self.entries: dict[str, list[str]] = {}
 
     async def append(self, name: str, marks: list[str], _patience: float = 0) -> bool:

@@ -68,6 +68,8 @@ class Node:
     async def answer(self, request: web.Request) -> web.StreamResponse:
         self.asked.append((request.path, await request.json(), request.headers.get("Authorization")))
         answer = self.answers.pop(0) if self.answers else (500, {"error": "there is no more answer"})
+        if isinstance(answer, Values):
+            answer = 200, {"kvs": [answer[self.asked[-1][1]["key"]]["kv"]]}
         if answer is None:
             assert request.transport
             request.transport.close()
@@ -90,6 +92,10 @@ class Node:
         for number in range(100 * isinstance(answer, Cookies)):
             made.set_cookie(f"cookie{number}", "x")
         return made
+
+
+class Values(dict):
+    """Events by their keys, of which the one that is asked for is answered."""
 
 
 class Cookies(tuple):
@@ -193,7 +199,7 @@ class Failures(Case):
     async def test_a_watch_that_ends_goes_on_behind_what_was_read(self):
         first, second = Node([told(event(5, "a"))]), Node([told(event(6, "b"))])
         self.assertEqual(await self.watched(await self.log(first, second), 2), [b"5.0 a\n", b"6.0 b\n"])
-        self.assertEqual(second.asked[0][1]["create_request"]["start_revision"], "5")
+        self.assertEqual(second.asked[0][1]["create_request"]["start_revision"], "6")
 
     async def test_a_door_that_lets_in_no_watch_is_left_for_a_while(self):
         """However well its member is: each way back would begin one more watch at another door, which has as few."""
@@ -205,10 +211,11 @@ class Failures(Case):
         self.assertEqual((await log.is_led(), log.turn), (True, 0))
 
     async def test_a_watch_may_end_inside_a_revision(self):
-        first = Node([told(event(5, "a")), told(event(6, "b\nc")), told(event(6, "d"))])
-        second = Node([told(event(6, "b\nc"), event(6, "d"), event(6, "e"), event(7, "f"))])
-        self.assertEqual(await self.watched(await self.log(first, second), 6),
-                         [b"5.0 a\n", b"6.0 b\n", b"6.1 c\n", b"6.2 d\n", b"6.3 e\n", b"7.0 f\n"])
+        """What was told of it alone is told again, with the rest."""
+        cut = {"result": {"header": {}, "fragment": True, "events": [event(5, "a"), event(6, "b\nc")]}}
+        second = Node([told(event(6, "b\nc"), event(7, "f"))])
+        self.assertEqual(await self.watched(await self.log(Node([cut]), second), 4), [b"5.0 a\n", b"6.0 b\n", b"6.1 c\n", b"7.0 f\n"])
+        self.assertEqual(second.asked[0][1]["create_request"]["start_revision"], "6")
 
     async def test_a_watch_is_begun_again_where_it_fails(self):
         for failure in [[b'{"error": {"message": "no leader"}}\n'], [{"result": {"canceled": True}}], [b"no JSON\n"], None,
@@ -313,18 +320,42 @@ class Failures(Case):
         self.assertEqual([it["limit"] for it in asked[2:6]], [100, 12, 1, 2])
         self.assertEqual(asked[6], {"key": short["key"]})
 
-    async def test_entries_of_one_revision_have_one_order(self):
-        """That of their names, whether a watch tells them in pieces or their keys are left."""
-        first, second = (event(5, text, key=f"log/Shop/{name}") for name, text in (("z", "00"), ("+", "01")))
-        cut = {"result": {"header": {}, "fragment": True, "events": [event(4, "02"), first]}}
-        in_order = [b"4.0 02\n", b"5.0 01\n", b"5.1 00\n"]
-        self.assertEqual(await self.watched(await self.log(Node([cut, told(second)])), 3), in_order)
-        keys = [{"key": it["kv"]["key"], "create_revision": it["kv"]["mod_revision"]} for it in (event(4, ""), second, first)]
-        left = [(200, {"kvs": [it["kv"]]}) for it in (event(4, "02"), second, first)]
-        node = Node([{"result": {"compact_revision": "7"}}], (200, {"header": {"revision": "5"}, "kvs": keys}), *left)
-        with contextlib.redirect_stdout(io.StringIO()):
-            self.assertEqual(await self.watched(await self.log(node), 3), in_order)
-        self.assertEqual([it[1]["key"] for it in node.asked[2:5]], [it["key"] for it in keys])
+    def left(self, *events: dict) -> list:
+        """What a member tells that has thrown away its history, of which these are left."""
+        keys = [{"key": it["kv"]["key"], "create_revision": it["kv"]["mod_revision"]} for it in events]
+        values = Values({it["kv"]["key"]: it for it in events})
+        return [[{"result": {"compact_revision": "7"}}], (200, {"header": {"revision": "7"}, "kvs": keys}), *[values] * len(events)]
+
+    async def test_of_several_entries_of_one_revision_none_counts(self):
+        """Whether a watch tells them in pieces or their keys are left. One whose name or value is too long is none of them."""
+        events = [event(int(it[0]), text, key=f"log/Shop/{it}") for it, text in
+                  {"4a": "02", "5z": "00", "5+": "01", "6l": "ff" * 2000, "6b": "03", "6" + "a" * 200: "00", "7a": "04"}.items()]
+        pieces = [{"result": {"header": {}, "fragment": True, "events": it}} for it in (events[:2], events[2:3], events[3:6])]
+        counts = [b"4.0 02\n", b"6.0 03\n", b"7.0 04\n"]
+        with mock.patch.object(etcd, "LONGEST_VALUE", 1000), contextlib.redirect_stdout(io.StringIO()):
+            for answers in ([[*pieces, told(events[6])]], self.left(*events)):
+                self.assertEqual(await self.watched(await self.log(Node(*answers)), 3), counts)
+
+    async def test_an_entry_that_is_longer_than_what_is_read_holds_nobody_up(self):
+        """A member may take what others do not. It is told in a line alone; and asked for of all, once nothing else is left."""
+        before, long, last = (event(number, text, key=f"log/Shop/{number}") for number, text in ((5, "aa"), (6, "ff" * 9000), (7, "bb")))
+        counts = [b"5.0 aa\n", b"7.0 bb\n"]
+        with mock.patch.multiple(etcd, LONGEST=4000, LONGEST_LINE=4000), contextlib.redirect_stdout(io.StringIO()):
+            self.assertEqual(await self.watched(await self.log(Node([told(before), told(long), told(last)])), 2), counts)
+            several = Node([told(before), told(long, last)]), Node([told(long), told(last)])
+            self.assertEqual(await self.watched(await self.log(*several), 2), counts)
+            nodes = Node(*self.left(before, long, last)), Node(*self.left(before, long, last)[2:])
+            self.assertEqual(await self.watched(await self.log(*nodes), 2), counts)
+
+    async def test_why_nothing_is_read(self):
+        log = await self.log(Node(*[[b"no JSON\n"]] * 3, [told(event(5, "a"))]))
+        self.assertEqual((await self.watched(log, 1), log.unread), ([b"5.0 a\n"], None))
+        log = await self.log(Node(*[[b"no JSON\n"]] * 50))
+        work = asyncio.ensure_future(self.watched(log, 1))
+        while not log.unread:
+            await asyncio.sleep(0.01)
+        work.cancel()
+        self.assertRegex(log.unread[1], "Expecting value")
 
     async def test_what_is_left_in_no_form_is_told(self):
         gone: list = [{"result": {"compact_revision": "7"}}]
@@ -358,7 +389,7 @@ class Liars(Case):
                 self.assertEqual(await self.watched(await self.log(Node([line]), Node([told(good)])), 1), [b"5.0 a\n"])
 
     async def test_a_line_and_an_answer_without_end(self):
-        with mock.patch.multiple(etcd, LONGEST=1 << 20, LONGEST_LINE=1 << 20):
+        with mock.patch.multiple(etcd, LONGEST=1 << 20, LONGEST_LINE=1 << 20, ENDLESS=1 << 20):
             # Behind that it says nothing, for longer than a watch is waited for here.
             endless = [*[b"x" * (1 << 18)] * 8, "nothing"]
             self.assertEqual(await self.watched(await self.log(Node(endless), Node([told(event(5, "a"))])), 1), [b"5.0 a\n"])
@@ -366,9 +397,9 @@ class Liars(Case):
                 await (await self.log(Node(*[endless] * 9))).append("Maker/a", ["x"], 0.0)
 
     async def test_a_revision_without_end(self):
+        """However many entries it has, nearly nothing is kept of them."""
         cut = json.dumps({"result": {"fragment": True, "events": [event(5, "a" * 1000)]}}).encode() + b"\n"
-        with mock.patch.object(etcd, "LONGEST_REVISION", 2000):
-            self.assertEqual(await self.watched(await self.log(Node([cut] * 9), Node([told(event(5, "b"))])), 1), [b"5.0 b\n"])
+        self.assertEqual(await self.watched(await self.log(Node([*[cut] * 9, told(event(6, "b"))])), 1), [b"6.0 b\n"])
 
     async def test_many_values(self):
         """What is short as bytes may be long in memory."""
@@ -401,23 +432,30 @@ class Real(unittest.IsolatedAsyncioTestCase):
     """A real node of etcd."""
 
     async def begin(self, *words: str) -> Log:
-        with socket.socket() as one, socket.socket() as other:
-            for it in (one, other):
-                it.bind(("127.0.0.1", 0))
-            url, peer = (f"http://127.0.0.1:{it.getsockname()[1]}" for it in (one, other))
-        room = self.enterContext(tempfile.TemporaryDirectory())
-        words = ("--data-dir", f"{room}/data", "--listen-client-urls", url, "--advertise-client-urls", url, "--listen-peer-urls", peer,
-                 "--initial-advertise-peer-urls", peer, "--initial-cluster", f"default={peer}", "--unsafe-no-fsync", "--logger", "zap",
-                 "--log-level", "fatal", *words)
-        process = await asyncio.create_subprocess_exec("etcd", *words, stderr=asyncio.subprocess.DEVNULL)
-        self.addAsyncCleanup(process.wait)
-        self.addCleanup(process.kill)
-        log = Log([url], "", "", None)
-        self.addAsyncCleanup(log.close)
-        async with asyncio.timeout(60):
-            while not await log.is_led():
-                await asyncio.sleep(0.05)
+        log, = await self.begin_each(words)
         return log
+
+    async def begin_each(self, *members: tuple[str, ...]) -> list[Log]:
+        """Begins a member with each of these words, and the log of each."""
+        with contextlib.ExitStack() as held:
+            ports = [held.enter_context(socket.create_server(("127.0.0.1", 0))).getsockname()[1] for _ in range(2 * len(members))]
+        urls = [f"http://127.0.0.1:{it}" for it in ports]
+        cluster = ",".join(f"m{place}={url}" for place, url in enumerate(urls[1::2]))
+        logs = [Log([url], "", "", None) for url in urls[::2]]
+        for place, words in enumerate(members):
+            url, peer, room = urls[2 * place], urls[2 * place + 1], self.enterContext(tempfile.TemporaryDirectory())
+            words = ("--name", f"m{place}", "--data-dir", f"{room}/data", "--listen-client-urls", url, "--advertise-client-urls", url,
+                     "--listen-peer-urls", peer, "--initial-advertise-peer-urls", peer, "--initial-cluster", cluster, "--unsafe-no-fsync",
+                     "--logger", "zap", "--log-level", "fatal", *words)
+            process = await asyncio.create_subprocess_exec("etcd", *words, stderr=asyncio.subprocess.DEVNULL)
+            self.addAsyncCleanup(process.wait)
+            self.addCleanup(process.kill)
+            self.addAsyncCleanup(logs[place].close)
+        async with asyncio.timeout(60):
+            for log in logs:
+                while not await log.is_led():
+                    await asyncio.sleep(0.05)
+        return logs
 
     async def test_one_revision_that_deletes_many_long_names(self):
         """Nothing of it counts, and it holds nobody up."""
@@ -429,6 +467,21 @@ class Real(unittest.IsolatedAsyncioTestCase):
         await log.append("Maker/a", ["00"])
         async with asyncio.timeout(60):
             self.assertEqual([[it.name for it in entries] async for entries in first(log.watch())], [[b"Maker/a"]])
+
+    async def test_what_another_member_takes_holds_nobody_up(self):
+        """One entry of 18 MB, and twenty in one request: by history, and by the keys that are left."""
+        log, other = await self.begin_each((), ("--max-request-bytes", "200000000", "--max-txn-ops", "100"))
+        self.enterContext(mock.patch.object(etcd, "NODE_SECONDS", 20.0))
+        await other._ask("/v3/kv/put", {"key": base64_of("log/Shop/long"), "value": base64_of("x" * 18_000_000)}, 60)
+        puts = [{"request_put": {"key": base64_of(f"log/Shop/{it}"), "value": base64_of("x" * 1_000_000)}} for it in range(20)]
+        await other._ask("/v3/kv/txn", {"success": puts}, 60)
+        await log.append("Maker/a", ["00"])
+        async with asyncio.timeout(60):
+            self.assertEqual([[it.name for it in entries] async for entries in first(log.watch())], [[b"Maker/a"]])
+        await log._ask("/v3/kv/compaction", {"revision": "4"}, 60)
+        with contextlib.redirect_stdout(io.StringIO()):
+            async with asyncio.timeout(60):
+                self.assertEqual([[it.name for it in entries] async for entries in first(log.watch())], [[b"Maker/a"]])
 
     async def test_at_its_quota_it_takes_nothing_and_says_so(self):
         log = await self.begin("--quota-backend-bytes", "300000")
