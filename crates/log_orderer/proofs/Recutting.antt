@@ -33,6 +33,7 @@ use Rattle.log_orderer.specs.Lines.{IsMark}
 use Rattle.log_orderer.specs.Log.{Reads, ReadsEach}
 use Rattle.log_orderer.specs.Marks.{CutsAgain, marks_of}
 use Rattle.log_orderer.proofs.Fresh.{AreFresh, fresh_stale, none_aborts, planned_as_is, survivors_fresh}
+use Rattle.log_orderer.proofs.Logging.{log_joined}
 use Rattle.log_orderer.proofs.Recut.{IsFew, IsOwnBatch, IsTakable, at, read_blocks}
 
 -- ---- the survivors of a batch
@@ -255,3 +256,25 @@ cut_again unread made lines answers opens bounds reads =
       chain_is = refl;
       idle = refl;
     }
+
+-- ---- a log that is cut
+
+each_stays : (old new : Ordering) (lines : List (List ℕ)) (answers : List (Option (List BatchReport))) → ReadsEach old lines answers new → Stays old new
+each_stays old new [] answers reads = same_stays old new reads.1
+each_stays old new (line ∷ lines) answers reads =
+    let same = stays old reads.2 line reads.0 reads.4 in
+    let more = each_stays reads.2 new lines reads.1 reads.5 in
+    record { edition = more.edition ∙ same.edition; limits = more.limits ∙ same.limits; reorder = more.reorder ∙ same.reorder }
+
+-- the marks of a chain stand for the lines that made it, where nothing waits
+pub cut_on : (unread here log : Ordering) (front back : List (List ℕ)) (answers later : List (Option (List BatchReport))) → IsOpening unread
+    → AreLimits unread.limits → ReadsEach unread front answers here → here.pending ≡ [] → ReadsEach here back later log
+    → (again : List (Option (List BatchReport))) × ReadsEach unread (marks_of here.chain ++ back) (again ++ later) log
+cut_on unread here log front back answers later opens bounds reads idle on =
+    let cut = cut_again unread here front answers opens bounds reads in
+    let one = each_stays unread here front answers reads in
+    let two = each_stays unread cut.replica (marks_of here.chain) cut.answers cut.reads in
+    let same : cut.replica ≡ here = same_ordering cut.replica here (two.edition ∙ sym one.edition) (two.reorder ∙ sym one.reorder) (two.limits ∙ sym one.limits)
+    (cut.idle ∙ sym idle) cut.chain_is in
+    let later_on = subst (λ (o : Ordering). ReadsEach o back later log) (sym same) on in
+    (cut.answers, log_joined unread cut.replica log (marks_of here.chain) back cut.answers later cut.reads later_on)

@@ -9,7 +9,7 @@ ghost use Rattle.orderer.specs.Ordering.{AreLimits, IsOpening, Ordering};
 ghost use Rattle.orderer.specs.declared.report.BatchReport.{BatchReport};
 ghost use Rattle.log_orderer.specs.Lines.{IsMark};
 ghost use Rattle.log_orderer.specs.Log.{Reads, ReadsEach};
-ghost use Rattle.log_orderer.specs.Marks.{CutsAgain};
+ghost use Rattle.log_orderer.specs.Marks.{CutsAgain, marks_of};
 
 use orderer::ordering_laws;
 use wire::spellings_differ;
@@ -48,4 +48,16 @@ pub fn a_chain_is_cut_again()
         (answers : List (Option (List BatchReport))) → IsOpening unread →
         AreLimits unread.limits → ReadsEach unread lines answers made →
         CutsAgain unread made.chain }
+{}
+
+/// A log that is cut where nothing waits reads on: the marks of the chain that its front made stand
+/// for the front. Who has read nothing, and reads these and then the rest, gives to the rest the
+/// log's answers, and is where the log is.
+pub fn a_cut_log_reads_on()
+    ensures { (unread here log : Ordering) (front back : List (List ℕ))
+        (answers later : List (Option (List BatchReport))) → IsOpening unread →
+        AreLimits unread.limits → ReadsEach unread front answers here → here.pending ≡ [] →
+        ReadsEach here back later log →
+        (again : List (Option (List BatchReport)))
+        × ReadsEach unread (marks_of here.chain ++ back) (again ++ later) log }
 {}

@@ -13,6 +13,6 @@ mod replica;
 mod skip;
 
 pub use batch::LogBatch;
-pub use laws::{a_chain_is_cut_again, log_laws};
+pub use laws::{a_chain_is_cut_again, a_cut_log_reads_on, log_laws};
 pub use replica::{LineReport, Replica};
 pub use skip::Skip;

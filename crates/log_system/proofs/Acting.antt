@@ -38,7 +38,7 @@ IsBehind =
 
 -- ---- chains
 
-get_front : {X : Type 0} (xs ys : List X) (i : ℕ) (x : X) → slice_get xs i ≡ Some x → slice_get (xs ++ ys) i ≡ Some x
+pub get_front : {X : Type 0} (xs ys : List X) (i : ℕ) (x : X) → slice_get xs i ≡ Some x → slice_get (xs ++ ys) i ≡ Some x
 get_front [] ys i x e = absurd (cc)
 get_front (z ∷ xs) ys zero x e = e
 get_front (z ∷ xs) ys (suc i) x e = get_front xs ys i x e

@@ -56,10 +56,11 @@ OneAnswers =
     (old new other : Ordering) (lines : List (List ℕ)) (answers left : List (Option (List BatchReport))) → ReadsEach old lines answers new →
     ReadsEach old lines left other → (answers ≡ left) × (new ≡ other)
 
--- the answers of the front of a log are the first ones
-read_front : (old new : Ordering) (front back : List (List ℕ)) (answers : List (Option (List BatchReport))) → ReadsEach old (front ++ back) answers new →
+-- the answers of the front of a log are the first ones, and who has read it reads on
+pub read_front : (old new : Ordering) (front back : List (List ℕ)) (answers : List (Option (List BatchReport))) → ReadsEach old (front ++ back) answers new →
     (first later : List (Option (List BatchReport))) × (between : Ordering) × (answers ≡ first ++ later) × ReadsEach old front first between
-read_front old new [] back answers reads = ([], answers, old, refl, (refl, refl))
+    × ReadsEach between back later new
+read_front old new [] back answers reads = ([], answers, old, refl, (refl, refl), reads)
 read_front old new (line ∷ front) back answers reads =
     let rest = read_front reads.2 new front back reads.1 reads.5 in (
       reads.0 ∷ rest.0,
@@ -67,6 +68,7 @@ read_front old new (line ∷ front) back answers reads =
       rest.2,
       reads.3 ∙ ap (λ (l : List (Option (List BatchReport))). reads.0 ∷ l) rest.3,
       (reads.0, rest.0, reads.2, refl, reads.4, rest.4),
+      rest.5,
     )
 
 pub replica_answers : OneAnswers → (s : Setting) (front back : List (List ℕ)) (answers some : List (Option (List BatchReport))) (log replica : Ordering) →

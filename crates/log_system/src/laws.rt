@@ -31,6 +31,7 @@ ghost use Rattle.endorser.specs.Endorsing.{endorsed_on};
 ghost use Rattle.log_committer.specs.declared.receiving.Received.TheVariants as received;
 ghost use Rattle.fabric_core.specs.System.{chain_of_first};
 ghost use Rattle.fabric_core.specs.Headline.{ConflictsAreOlder, IsAmong, IsHonest};
+ghost use Rattle.log_system.specs.Cuts.{IsCut};
 ghost use Rattle.log_system.specs.Machines.{Act, AreMachines, Does, DoesEach, IsRead, Machine};
 ghost use Rattle.log_system.specs.Machines.{Endorses, Joins, Setting, endorsing_at, endorsing_with};
 ghost use Rattle.log_system.specs.Machines.{unread};
@@ -41,7 +42,7 @@ ghost use Rattle.log_system.specs.Restarts.{AreToldApart, ReceivesEach};
 use chaincode_book::Book;
 use endorsement_policy::{Rules, an_endorsed_envelope_carries_a_right_tag};
 use log_committer::peers_agree;
-use log_orderer::log_laws;
+use log_orderer::{a_cut_log_reads_on, log_laws};
 use orderer::ordering_laws;
 use simulator::{parts_answer_alike, reads_alone};
 
@@ -221,4 +222,15 @@ pub fn a_peer_is_a_machine()
 {
     log_laws();
     peers_agree();
+}
+
+/// Machines beside a log that is cut are machines beside that log. So the laws of machines hold of
+/// them, wherever the log of each was cut.
+pub fn a_cut_log_is_one_log()
+    ensures { (setting : Setting) (lines cut : List (List ℕ)) (org : Bytes) (acts : List Act)
+        (old new : Chain) → IsCut setting lines cut → DoesEach setting cut org old acts new →
+        DoesEach setting lines org old acts new }
+{
+    log_laws();
+    a_cut_log_reads_on();
 }

@@ -1,5 +1,5 @@
 -- Several peers beside one log.
-use Rattle.std.specs.Prelude.{◌≡◌, ◌≤◌, List, [], ◌++◌, IfSome, length}
+use Rattle.std.specs.Prelude.{◌≡◌, ◌≤◌, ◌⊎◌, List, [], ◌++◌, IfSome, length}
 use Rattle.fab_types.specs.Payloads.{Payload}
 use Rattle.chaincode_book.specs.Books.{Book}
 use Rattle.committer.specs.Fits.{blocks_of}
@@ -9,6 +9,7 @@ use Rattle.ledger_model.specs.Chain.{Bytes, Chain}
 use Rattle.ledger_setting.specs.Limits.{limits_of}
 use Rattle.ledger_setting.specs.Rule.{table_of}
 use Rattle.ledger_setting.specs.declared.genesis.Genesis.{Genesis}
+use Rattle.log_system.specs.Cuts.{IsCut}
 use Rattle.log_system.specs.Machines.{Machine, Setting}
 use Rattle.log_system.specs.Peers.{Deed, calls_in, calls_of}
 use Rattle.log_system.specs.Restarts.{AreToldApart}
@@ -71,14 +72,18 @@ pub record Follower : Type 0 where
   pub text : Bytes
   pub new : Reached
 
--- It goes by the setting and did its lines as `Peers` says. It has read a beginning of this log and has caught up with its store, and hashes of headers
--- tell the store's blocks from those that the log made
+-- the log itself, or the log as it is cut somewhere
+abbrev pub IsOneLog : Setting → (log lines : List Bytes) → Type 0
+IsOneLog s log lines = (lines ≡ log) ⊎ IsCut s log lines
+
+-- It goes by the setting and did its lines as `Peers` says. It has read a beginning of this log, cut or whole, and has caught up with its store, and
+-- hashes of headers tell the store's blocks from those that the log made
 pub record Follows (s : Setting) (log : List Bytes) (f : Follower) : Type 0 where
   pub goes : GoesBy s f.org f.peer
   pub lawful : AreLawful (table_of f.peer.log.genesis.rules.value) [] f.stored
   pub done : AreDone (DoesLine f.peer) 1 (opened f.peer f.stored) f.lines f.text f.new
   pub later : List Bytes
-  pub begins : logged_in f.lines ++ later ≡ log
+  pub begins : IsOneLog s log (logged_in f.lines ++ later)
   pub caught_up : length f.new.held.chain ≤ length f.new.held.log.chain
   pub apart : AreToldApart (blocks_of f.stored) f.new.held.log.chain
 

@@ -16,15 +16,15 @@ ghost use Rattle.peer_answers.specs.Answering.{Peer};
 ghost use Rattle.peer_laws.specs.Together.{Follower, Follows, GoesBy, HasGenesis, IsMachineOf};
 ghost use Rattle.peer_laws.specs.Together.{setting_by};
 
-use log_system::{a_peer_is_a_machine, apart};
+use log_system::{a_cut_log_is_one_log, a_peer_is_a_machine, apart};
 use simulator::parts_answer_alike;
 
-/// Peers over lines that go by one setting, and of which each has read a beginning of one log and
-/// has caught up with its store, are one system. Each is a machine beside that log, with the chain of
-/// the peer, and with the answers that the peer printed to calls (`machine`). So the laws of machines
-/// hold of them, and all that they did is a run of one system (`system`). Peers by one genesis go by
-/// one setting where those of one organisation have the same seeds, and each has at hand some of the
-/// modules of one book (`goes`).
+/// Peers over lines that go by one setting, and of which each has read a beginning of one log, cut
+/// or whole, and has caught up with its store, are one system. Each is a machine beside that log,
+/// with the chain of the peer, and with the answers that the peer printed to calls (`machine`). So
+/// the laws of machines hold of them, and all that they did is a run of one system (`system`). Peers
+/// by one genesis go by one setting where those of one organisation have the same seeds, and each
+/// has at hand some of the modules of one book (`goes`).
 ///
 /// A call that is answered `bad`, 406, 409, 806 or 808 is none of the machine's. The premise is that
 /// no block of a store has the header hash of another block that the log made.
@@ -46,5 +46,6 @@ pub fn peers_are_one_system()
 {
     parts_answer_alike();
     a_peer_is_a_machine();
+    a_cut_log_is_one_log();
     apart();
 }
