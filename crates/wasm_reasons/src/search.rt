@@ -19,10 +19,12 @@ pub(crate) fn end_of_fault(
 ) -> Result<Option<usize>, AllocError> {
     let (mut without, mut with) = (0usize, bytes.len());
     for _ in 0..usize::BITS {
-        let limit = without.saturating_add(with.saturating_sub(without) / 2);
-        if limit == without {
+        let middle = without.saturating_add(with.saturating_sub(without) / 2);
+        if middle == without {
             break;
         }
+        // Most faults stand in front, where little is read.
+        let limit = middle.min(without.saturating_mul(4).saturating_add(256));
         match has_fault(alloc, profile, bytes, limit, fault)? {
             Some(true) => with = limit,
             Some(false) => without = limit,
