@@ -93,8 +93,8 @@ class Api:
         chain, awaited, now, wrong = self.chain, self.chain.awaited, time.monotonic(), []
         if chain.forked:
             wrong.append(f"forked: {chain.forked}. Compare the hash of that block with each organisation, not through the log")
-        if chain.shortness:
-            wrong.append(chain.shortness)
+        if chain.is_other_log:
+            wrong.append(f"{chain.shortness}. It may be another log: compare the stores, and renew the log behind the longest one")
         if awaited.since and now - awaited.since > STUCK + chain.wait and not chain.is_full:
             wrong.append("envelopes wait, and no tick comes: the log may take none")
         if (unled := now - chain.led) > UNLED:

@@ -31,7 +31,7 @@ FULL, NO_MARK = 422, 300
 PROBE, SHORT_PATIENCE = 3.0, 3.0
 # The JSON of so many blocks is kept for those who watch.
 NEWEST = 16
-# For how long a log that gives fewer blocks than the store has may be one that is still read, in seconds.
+# After how many seconds without a block a log that gives fewer than the store has is taken for another one.
 SHORT = 15.0
 # So many calls that came to no block are remembered with the reason.
 REMEMBERED = 1000
@@ -78,8 +78,8 @@ class Chain:
         self.ticks = config.ticks
         # Where the log is, and how many entries it has; how many of its lines the peer was given, and how many it has read.
         self.revision = self.entries = self.given = self.read = 0
-        # When the peer read the last one, by a clock that never goes back.
-        self.read_at = time.monotonic()
+        # When they made the last block, by a clock that never goes back.
+        self.made_at = time.monotonic()
         # How often entries are put, and how many bytes of all callers and of each: a file bears any number.
         self.pace, self.space = (Pace(0.0), Pace(0.0)) if config.is_local else (Pace(EACH), pace_of_bytes())
         self.apart = apart(0.0 if config.is_local else ENTRIES_APART)
@@ -132,12 +132,14 @@ class Chain:
 
     @property
     def shortness(self) -> str:
-        """What is wrong where the log has given fewer blocks than the store has, and goes on no more: another log makes other blocks."""
+        """What is told where the log has given fewer blocks than the store has: its next block is another one, if it is another log."""
         number = self.awaited.number - 1
-        if number >= self.height or self.read < self.given or time.monotonic() - self.read_at < SHORT:
-            return ""
-        return (f"the store has {self.height:,} blocks, and the log gives {number:,}. It may be another log: compare the stores, and renew the log"
-                " behind the longest one")
+        return f"the store has {self.height:,} blocks, and the log has given {number:,} of them" if number < self.height else ""
+
+    @property
+    def is_other_log(self) -> bool:
+        """Whether it gives no more of them, as far as one sees."""
+        return self.shortness != "" and time.monotonic() - self.made_at > SHORT
 
     @property
     def share(self) -> int:
@@ -211,16 +213,16 @@ class Chain:
             case ["tx", *tx]:
                 self.told.append(tx)
             case ["committed", number, "flags", *flags]:
-                self.awaited = Awaited(int(number) + 1)
+                self.awaited, self.made_at = Awaited(int(number) + 1), time.monotonic()
                 for it in flags:
                     self.counts[f"flag {it}"] += 1
                 await self.committed(int(number))
             case ["known", number]:
-                self.awaited = Awaited(int(number) + 1)
+                self.awaited, self.made_at = Awaited(int(number) + 1), time.monotonic()
             case ["read", index, waiting]:
                 is_own = waiting != "0" and self.part in self.lines.behind
                 self.awaited = Awaited(self.awaited.number, int(waiting), self.awaited.since or time.monotonic() if is_own else None)
-                self.read, self.read_at = self.read + 1, time.monotonic()
+                self.read += 1
                 self.unread.pop(index, None)
             case ["skipped", index, number]:
                 # What nodes tell each other is no mark, and is skipped so by all.

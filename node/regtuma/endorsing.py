@@ -195,7 +195,7 @@ class Endorsing:
 
     def denial(self, proposal: Object) -> str | None:
         """Why a proposal is not even simulated, if so."""
-        if why := self.chain.forked or self.chain.shortness:
+        if why := self.chain.forked or self.chain.is_other_log and self.chain.shortness:
             return why
         if "chaincode" not in proposal and not self.agreed.holds(id := id_of(proposal)):
             return f"its operator has not agreed to {id}"

@@ -126,8 +126,10 @@ class Gateway:
             raise Refused(422, numbers.in_words(f"refused {FULL}"))
         if not self.chain.share:
             raise Refused(422, {"why": NO_SHARE})
-        if why := self.chain.forked or self.chain.shortness:
-            raise Refused(503, {"why": why})
+        if self.chain.forked:
+            raise Refused(503, {"why": self.chain.forked})
+        if self.chain.shortness:
+            raise Refused(503, {"why": f"{self.chain.shortness}: ask again"})
 
     def check_space(self, caller: str) -> None:
         """Whether the log has room for a call of a caller."""

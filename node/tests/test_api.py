@@ -56,7 +56,7 @@ class Case(unittest.IsolatedAsyncioTestCase):
         self.config.ledger.template = str(support.ROOT / "examples/page/template.html")
         self.said: list[str] = []
         self.chain = Chain(self.config, FakeLog(), self.said.append)
-        self.chain.times, self.chain.peer, self.chain.height = Times(), Query(), 4
+        self.chain.times, self.chain.peer, self.chain.height, self.chain.awaited = Times(), Query(), 4, Awaited(5)
         endorsing = Endorsing(self.config, self.chain)
         with mock.patch.object(config.Config, "node_tls", return_value=None):
             gateway = Gateway(self.config, self.chain, endorsing)
@@ -302,7 +302,7 @@ class Health(Case):
         for told, changes in [("forked: Shop says", {"forked": "Shop says that it has another block 4"}),
                               ("envelopes wait, and no tick comes", {"awaited": Awaited(5, 1, -1e6)}),
                               ("the log could take no entry for", {"led": -1e6}), ("20000 lines of the log are unread", {"given": 20000}),
-                              ("the store has 4 blocks, and the log gives 1", {"awaited": Awaited(2), "read_at": -1e6}),
+                              ("the store has 4 blocks, and the log has given 1", {"awaited": Awaited(2), "made_at": -1e6}),
                               ("the chain is full", {"awaited": Awaited(LAST_BLOCK + 1)})]:
             with self.subTest(told=told), contextlib.ExitStack() as changed:
                 for name, value in changes.items():

@@ -267,19 +267,19 @@ class Lines(Case):
         self.assertEqual((raised.exception.status, raised.exception.said["why"]), (503, self.chain.forked))
         self.assertEqual(await self.endorsed(), [{"denied": self.chain.forked, "height": 0}])
 
-    async def test_a_log_that_gives_fewer_blocks_than_the_store_has_takes_no_call(self):
-        """Its next block is another one. While it is read nothing is told."""
-        self.chain.height, self.chain.awaited = 8, Awaited(6)
-        self.gateway.check_open()
-        self.chain.read_at -= chains.SHORT
+    async def test_while_the_log_has_given_fewer_blocks_than_the_store_has_no_call_is_taken(self):
+        """It may be another log, whose next block is another one. Where no more come, nothing is endorsed either."""
+        self.chain.height, told = 8, "the store has 8 blocks, and the log has given 5 of them"
+        await self.passed("known 5")
         with self.assertRaises(Refused) as raised:
             self.gateway.check_open()
-        self.assertEqual(raised.exception.status, 503)
-        self.assertRegex(raised.exception.said["why"], "^the store has 8 blocks, and the log gives 5. It may be another log")
-        self.assertEqual(await self.endorsed(), [{"denied": self.chain.shortness, "height": 8}])
-        for awaited, given in ((9, 0), (6, 1)):
-            self.chain.awaited, self.chain.given = Awaited(awaited), given
-            self.assertEqual(self.chain.shortness, "")
+        self.assertEqual((raised.exception.status, raised.exception.said["why"]), (503, f"{told}: ask again"))
+        self.assertFalse(self.chain.is_other_log)
+        self.chain.made_at -= 2 * chains.SHORT
+        self.assertEqual(await self.endorsed(), [{"denied": told, "height": 8}])
+        await self.passed("known 8")
+        self.gateway.check_open()
+        self.assertFalse(self.chain.is_other_log)
 
     async def test_who_waits_for_a_block_ends_in_the_very_moment_in_which_it_comes(self):
         async def follow() -> None:

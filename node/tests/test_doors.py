@@ -27,7 +27,7 @@ from unittest import mock
 
 import support
 from regtuma import api, config, node
-from regtuma.chain import Chain
+from regtuma.chain import Awaited, Chain
 from regtuma.endorsing import Endorsing
 from regtuma.gateway import Gateway
 from test_access import AUTHORITY, Certificates
@@ -72,7 +72,7 @@ async def serve(folder):
     settings.ledger.template = str(support.ROOT / "examples/page/template.html")
     it = mock.Mock(config=settings, runners=[])
     chain = Chain(settings, FakeLog(), lambda said: print(said, flush=True))
-    chain.times, chain.peer, chain.height = Times(), LongBlocks(), BLOCKS
+    chain.times, chain.peer, chain.height, chain.awaited = Times(), LongBlocks(), BLOCKS, Awaited(BLOCKS + 1)
     endorsing = Endorsing(settings, chain)
     with mock.patch.object(config.Config, "node_tls", return_value=None):
         gateway = Gateway(settings, chain, endorsing)
