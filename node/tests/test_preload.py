@@ -32,6 +32,8 @@ def certificate(key) -> bytes:
 
 @unittest.skipUnless(shutil.which("clang"), "no clang")
 class Keys(unittest.TestCase):
+    library: ctypes.CDLL
+
     @classmethod
     def setUpClass(cls):
         # OpenSSL, in which it looks for what reads them.

@@ -31,7 +31,7 @@ class Endorsed(unittest.IsolatedAsyncioTestCase):
         self.keys = Keys(str(self.genesis))
 
     async def faults(self, answers: dict, own: dict | None = None) -> dict[str, str]:
-        gateway = mock.Mock(is_own=lambda *said: Gateway.is_own(gateway, *said))
+        gateway: mock.Mock = mock.Mock(is_own=lambda *said: Gateway.is_own(gateway, *said))
         gateway.config.organisation, gateway.chain.keys = "Maker", self.keys
         gateway.chain.standing = lambda: self.keys.at(self.peer, 0)
         return await Gateway.faults(gateway, CALL, answers, own)
