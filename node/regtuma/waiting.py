@@ -11,8 +11,16 @@ T = TypeVar("T")
 Item = TypeVar("Item")
 
 
+# How many bytes are kept of what is too long.
+BEGIN = 2000
+
+
 class TooMuch(ValueError):
-    """Somebody answers more than is read."""
+    """Somebody answers more than is read, which begins so."""
+
+    def __init__(self, why: str, begin: bytes = b""):
+        super().__init__(why)
+        self.begin = begin
 
 
 class NoCookies(SimpleCookie[str]):
@@ -86,7 +94,7 @@ async def whole(content: aiohttp.StreamReader, longest: int) -> bytes:
     async for piece in content.iter_any():
         data += piece
         if len(data) > longest:
-            raise TooMuch(f"its answer has more than {longest >> 20} MiB")
+            raise TooMuch(f"its answer has more than {longest >> 20} MiB", bytes(data[:BEGIN]))
     return bytes(data)
 
 

@@ -344,8 +344,20 @@ class Failures(Case):
             self.assertEqual(await self.watched(await self.log(Node([told(before), told(long), told(last)])), 2), counts)
             several = Node([told(before), told(long, last)]), Node([told(long), told(last)])
             self.assertEqual(await self.watched(await self.log(*several), 2), counts)
-            nodes = Node(*self.left(before, long, last)), Node(*self.left(before, long, last)[2:])
-            self.assertEqual(await self.watched(await self.log(*nodes), 2), counts)
+            nodes = Node(*self.left(before, long, last)), Node(*self.left(before, long, last)[2:]), Node(*[NO_LEADER] * 9)
+            log = await self.log(*nodes)
+            self.assertEqual((await self.watched(log, 2), "4000" in str(log.unread) or "MiB" in str(log.unread)), (counts, True))
+
+    async def test_names_that_are_longer_than_what_is_read_hold_nobody_up(self):
+        """Where they alone are left of what another member took: those that begin as they do are too long to count, too."""
+        name, last = "log/Shop/" + "a" * 9000, event(7, "bb", key="log/Shop/b")
+        long = 200, {"header": {"revision": "7"}, "kvs": [{"key": base64_of(name), "create_revision": "6"}]}
+        rest = 200, {"header": {"revision": "7"}, "kvs": [{"key": last["kv"]["key"], "create_revision": "7"}]}
+        node = Node([{"result": {"compact_revision": "7"}}], long, long, long, rest, (200, {"kvs": [last["kv"]]}))
+        with mock.patch.object(etcd, "LONGEST", 4000), contextlib.redirect_stdout(io.StringIO()):
+            self.assertEqual(await self.watched(await self.log(node), 1), [b"7.0 bb\n"])
+        starts = [base64.b64decode(body["key"]) for _, body, _ in node.asked[1:5]]
+        self.assertEqual(starts, [b"log/"] * 3 + [name[:203].encode() + b"b"])
 
     async def test_why_nothing_is_read(self):
         log = await self.log(Node(*[[b"no JSON\n"]] * 3, [told(event(5, "a"))]))
