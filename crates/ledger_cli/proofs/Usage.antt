@@ -13,6 +13,7 @@ use Rattle.cli_words.specs.declared.task.Work.TheVariants as work
 use Rattle.cli_words.specs.declared.task.WordsFault.{WordsFault}
 use Rattle.cli_words.specs.declared.task.WordsFault.TheVariants as words
 use Rattle.ledger_cli.specs.Ends.{ComesOf, PrintsLast, failure_status}
+use Rattle.cli_peer.specs.Checkpoints.{Checkpoints}
 use Rattle.cli_peer.specs.Peering.{Peers}
 use Rattle.cli_show.specs.Answers.{States}
 use Rattle.cli_show.specs.Findings.{Audits, Shows}
@@ -46,6 +47,8 @@ works_kept log (work.State store at part) k t u r is h = answers_kept (States lo
 works_kept log (work.Trace call most) k t u r is h = answers_kept (Traces log.genesis call most) t u r is h.0
 works_kept log (work.Peer org store) k t u r is h =
     answers_kept (Peers (record { log = log; org = org; keeps = k.writes }) (opened_bytes k.writes (k.before store.now)) k.input) t u r is h.0.0
+works_kept log (work.Checkpoint store file) k t u r is h =
+    answers_kept (Checkpoints log k.writes (k.before store.now) (k.after file.now)) t u r is h.0.0
 works_kept log (work.Marks store) k t u r is h = answers_kept (Marks log.genesis (k.before store.now)) t u r is h.0
 
 comes_kept : (task : Task) (k : KnownFiles) (t u : Told) (r : Answer) → r ≡ Err failure.Usage → Comes task k t u r → IsKept t u
