@@ -625,7 +625,7 @@ class Calls(Case):
         self.chain.keys.since, self.chain.keys.height = 0, 3
 
     def answer(self, **answers):
-        self.asked, self.chain.height = [], 3
+        self.asked, self.chain.height, self.chain.awaited = [], 3, Awaited(4)
 
         async def ask(organisation, _caller, _proposal, height):
             self.asked.append((organisation, height))
